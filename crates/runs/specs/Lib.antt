@@ -1,0 +1,2 @@
+pub mod Fourteen
+pub mod Further
