@@ -35,6 +35,9 @@ pub record Given : Type 0 where
   pub setup : Setup
   pub supply : List ℕ
 
+abbrev pub given : Setup → List ℕ → Given
+given setup supply = record { setup = setup; supply = supply }
+
 -- what an event changes: the state, the lent frames and store, and the seals and unveils of the event under way
 pub record Machine : Type 0 where
   pub tables : Tables
