@@ -30,14 +30,14 @@ kind-below (Read c v x) = lit< tt
 kind-below (Write c v x) = lit< tt
 kind-below (Trap c k mask) = lit< tt
 
+few-or-none : (none : Bool) (x y : Gppn) → length (cond none [] (x ∷ y ∷ [])) ≤ maxSeals
+few-or-none true x y = lit≤ tt
+few-or-none false x y = lit≤ tt
+
 few-first : (f : Gppn) (p : Place) → length (sealedFirst f p) ≤ maxSeals
 unfolding sealedFirst
 few-first f Public = lit≤ tt
-few-first f (Clear h w) = at (eqb (h .0) (f .0))
-  where
-    at : (b : Bool) → length (cond b [] (h ∷ f ∷ [])) ≤ maxSeals
-    at true = lit≤ tt
-    at false = lit≤ tt
+few-first f (Clear h w) = few-or-none (eqb (h .0) (f .0)) _ _
 few-first f (Sealed k) = lit≤ tt
 
 pub few-seals : (s : Setup) (t : Tables) (e : Event) → length ((row s t e) .seals) ≤ maxSeals
