@@ -1,0 +1,17 @@
+-- `ending::cleared` meets its contract, by the test that it makes.
+use mathlib.Core.Path.{_≡_, sym, _∙_}
+use borrow.Author.Needs.{needs}
+use Rattle.ending.proofs.cleared.Statement.{statement}
+use Rattle.ending.proofs.cleared.Tie as tie
+
+is-in-requires : tie.Need-is-in-requires
+is-in-requires c κs = search needs
+
+returns : tie.Need-returns
+returns c = rw (sym (c .before .is-in .ensures) ∙ c .if1 .taken)
+
+returns-2 : tie.Need-returns-2
+returns-2 c = rw (sym (c .before .is-in .ensures) ∙ c .if1 .left)
+
+pub cleared-spec : {M : Type 1} → statement M
+cleared-spec = tie.close (tie.spec is-in-requires returns returns-2)

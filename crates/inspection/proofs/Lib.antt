@@ -1,0 +1,3 @@
+-- What a granted look stands on.
+pub mod Within
+pub mod OneAnswer

@@ -1,0 +1,2 @@
+-- Where the part stands that a look hands back.
+pub mod Where

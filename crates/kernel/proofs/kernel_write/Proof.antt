@@ -1,0 +1,45 @@
+-- `kernel::kernel_write` meets its contract: the frame is sealed, and the data then stored in it.
+use mathlib.Core.Path.{_≡_, _∙_}
+use Rattle.kernel.proofs.Touching.{write-seals, write-fits, write-leaves}
+use borrow.Author.Needs.{needs}
+use Rattle.kernel.proofs.kernel_write.Statement.{statement}
+use Rattle.kernel.proofs.kernel_write.Tie as tie
+
+seal-requires : tie.Need-seal-requires
+seal-requires c κs =
+    let a = c .before .before .before .before .before .before .before .before .before in
+    write-seals _ _ _ _ _ _ (a .args .span) (a .args .«data» .now) (a .args .answer .now) (a .pre)
+
+cast-put-span : tie.Need-cast-put-span
+cast-put-span c = search needs
+
+put-span-requires : tie.Need-put-span-requires
+put-span-requires c κs =
+    let a = c .before .before .before .before .before .before .before .before .before .before .before .before .before .before .before .before in
+    write-fits _ _ _ _ _ _ _ (a .args .«data» .now) (a .args .answer .now) (a .pre) (c .before .before .before .before .before .frames .given)
+
+told-requires : tie.Need-told-requires
+told-requires c κs = search needs
+
+same-length : tie.Need-same-length
+same-length c = search needs
+
+same-length-2 : tie.Need-same-length-2
+same-length-2 c = search needs
+
+returns : tie.Need-returns
+returns c =
+    let a = c .before .before .before .before .before .before .before .before .before .before .before .before .before .before .before .before .before .before .before .before .before in
+    c .told .ensures _ _ _ ∙ write-leaves _ _ _ _ _ _ _ _ _ (a .pre) _ (c .before .before .before .before .before .before .before .before .before .before .before .seal .ensures (a .args .state .saved)) (c .before .before .before .before .put-span .ensures)
+
+pub kernel-write-spec : {M : Type 1} → statement M
+kernel-write-spec =
+    tie.close
+    (tie.spec
+    seal-requires
+    cast-put-span
+    put-span-requires
+    told-requires
+    same-length
+    same-length-2
+    returns)

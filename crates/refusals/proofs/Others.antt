@@ -1,0 +1,39 @@
+-- A `match` on an event that names some kinds leaves the rest to one arm, which is told that the kind is one of those.
+-- Assumes nothing.
+use mathlib.Core.Path.{refl}
+use mathlib.Core.List.{List, [], _∷_}
+use mathlib.Core.Bool.{true}
+use Prim.Native.Nat.{ℕ}
+use denote.Enum.Declared.{tagOf}
+use types.Run.{OneOf, miss}
+use Rattle.rules.specs.Events.{row, onRecords, acting, onPage}
+use Rattle.rules.proofs.Event.{the-type}
+use Rattle.refusals.specs.Stages.{FormOf}
+use Rattle.rules.specs.declared.Setup.{Setup}
+use Rattle.rules.specs.declared.Event.{Event}
+use Rattle.rules.specs.declared.Event.the-variants.{Begin, End, Map, Unmap, KernelRead, KernelWrite, Resume, Spawn, Leave, Cloak, Uncloak, Read, Write, Trap}
+use Rattle.refusals.specs.declared.form.Form.{Form}
+
+abbrev plain : Form
+plain = record { mask = true; span = true; new = 0; answer = 0 }
+
+-- all kinds but those with a span, resume and trap
+abbrev rest : List ℕ
+rest = 0 ∷ 1 ∷ 2 ∷ 3 ∷ 7 ∷ 8 ∷ 9 ∷ 10 ∷ []
+
+pub form-of-rest : (s : Setup) (e : Event) → OneOf rest (tagOf the-type e) → FormOf s e plain
+unfolding row onRecords acting onPage
+form-of-rest s (Begin d c) k = record { mask = λ t. refl; span = λ t. refl; new = refl; answer = refl }
+form-of-rest s (End d) k = record { mask = λ t. refl; span = λ t. refl; new = refl; answer = refl }
+form-of-rest s (Map d v f) k = record { mask = λ t. refl; span = λ t. refl; new = refl; answer = refl }
+form-of-rest s (Unmap d v) k = record { mask = λ t. refl; span = λ t. refl; new = refl; answer = refl }
+form-of-rest s (KernelRead f x) k = absurd (miss rest 4 tt k)
+form-of-rest s (KernelWrite f x) k = absurd (miss rest 5 tt k)
+form-of-rest s (Resume d c) k = absurd (miss rest 6 tt k)
+form-of-rest s (Spawn c u) k = record { mask = λ t. refl; span = λ t. refl; new = refl; answer = refl }
+form-of-rest s (Leave c) k = record { mask = λ t. refl; span = λ t. refl; new = refl; answer = refl }
+form-of-rest s (Cloak c v) k = record { mask = λ t. refl; span = λ t. refl; new = refl; answer = refl }
+form-of-rest s (Uncloak c v) k = record { mask = λ t. refl; span = λ t. refl; new = refl; answer = refl }
+form-of-rest s (Read c v x) k = absurd (miss rest 11 tt k)
+form-of-rest s (Write c v x) k = absurd (miss rest 12 tt k)
+form-of-rest s (Trap c i m) k = absurd (miss rest 13 tt k)

@@ -1,0 +1,269 @@
+-- `refusals::refusal` meets its contract: a form that is refused is the answer, and one that passed leaves it to the event's
+-- own function, whose numbers are then in range.
+use mathlib.Core.Path.{_≡_, sym, _∙_}
+use mathlib.Core.Bool.{true}
+use Prim.Native.Nat.{ℕ}
+use borrow.Author.Tests.{ltb-true}
+use borrow.Author.Needs.{needs}
+use Rattle.rules.specs.Sizes.{domainIn, pageIn, frameIn, contextIn}
+use Rattle.rules.specs.Events.{row, onRecords, acting, touching, numbersIn}
+use Rattle.rules.specs.Answers.{firstOf, checks}
+use Rattle.refusals.specs.Stages.{byForm, byRow, standing}
+use Rattle.refusals.proofs.Orders.{form-refused, form-passed, numbers-told, two-below, first-below}
+use Rattle.refusals.proofs.refusal.Statement.{statement}
+use Rattle.refusals.proofs.refusal.Tie as tie
+
+-- what the first stage tells, once it passed
+numbers : (c : tie.Else1) → let a = c .before .before .args in numbersIn (a .setup) (a .event) ≡ true
+unfolding byForm
+numbers c = numbers-told _ _ _ _ (sym (c .before .by-form .ensures (c .before .before .args .tables)) ∙ c .if1 .left)
+
+granted : (c : tie.Else1) (m : ℕ) → let a = c .before .before .args in m ≡ standing (a .setup) (a .tables) (a .event)
+    → m ≡ firstOf (checks (a .setup) (a .tables) (a .event) (row (a .setup) (a .tables) (a .event)) (a .new) (a .room))
+granted c m last =
+    let a = c .before .before .args in
+    form-passed (a .setup) (a .tables) (a .event) (a .new) (a .room) _ (c .before .by-form .ensures (a .tables))
+    (c .if1 .left) m last
+
+by-form-requires : tie.Need-by-form-requires
+by-form-requires c κs = search needs
+
+returns : tie.Need-returns
+returns c =
+    let a = c .before .before .args in
+    form-refused (a .setup) (a .tables) (a .event) (a .new) (a .room) _ (c .before .by-form .ensures (a .tables))
+    (c .if1 .taken)
+
+enum-known-event : tie.Need-enum-known-event
+enum-known-event c = search needs
+
+begin-requires : tie.Need-begin-requires
+unfolding numbersIn domainIn pageIn frameIn contextIn
+begin-requires c κs =
+    let n = two-below _ _ _ _ (rw (c .before .event .given .1) at (numbers (c .before .before .before))) in
+    (c .before .before .before .before .before .pre, n .0, n .1)
+
+enum-known-event-2 : tie.Need-enum-known-event-2
+enum-known-event-2 c = search needs
+
+end-requires : tie.Need-end-requires
+unfolding numbersIn domainIn pageIn frameIn contextIn
+end-requires c κs =
+    let ready = c .before .before .before .before .before .pre in
+    (ready, ltb-true _ _ (rw (c .before .event2 .given .1) at (numbers (c .before .before .before))))
+
+enum-known-event-3 : tie.Need-enum-known-event-3
+enum-known-event-3 c = search needs
+
+end-requires-2 : tie.Need-end-requires-2
+unfolding numbersIn domainIn pageIn frameIn contextIn
+end-requires-2 c κs =
+    let ready = c .before .before .before .before .before .pre in
+    (ready, first-below _ _ _ (rw (c .before .event3 .given .1) at (numbers (c .before .before .before))))
+
+enum-known-event-4 : tie.Need-enum-known-event-4
+enum-known-event-4 c = search needs
+
+unmap-requires : tie.Need-unmap-requires
+unfolding numbersIn domainIn pageIn frameIn contextIn
+unmap-requires c κs =
+    let n = two-below _ _ _ _ (rw (c .before .event4 .given .1) at (numbers (c .before .before .before))) in
+    (c .before .before .before .before .before .pre, n .0, n .1)
+
+enum-known-event-5 : tie.Need-enum-known-event-5
+enum-known-event-5 c = search needs
+
+kernel-requires : tie.Need-kernel-requires
+unfolding numbersIn domainIn pageIn frameIn contextIn
+kernel-requires c κs =
+    let ready = c .before .before .before .before .before .pre in
+    (ready, ltb-true _ _ (rw (c .before .event5 .given .1) at (numbers (c .before .before .before))))
+
+enum-known-event-6 : tie.Need-enum-known-event-6
+enum-known-event-6 c = search needs
+
+kernel-requires-2 : tie.Need-kernel-requires-2
+unfolding numbersIn domainIn pageIn frameIn contextIn
+kernel-requires-2 c κs =
+    let ready = c .before .before .before .before .before .pre in
+    (ready, ltb-true _ _ (rw (c .before .event6 .given .1) at (numbers (c .before .before .before))))
+
+enum-known-event-7 : tie.Need-enum-known-event-7
+enum-known-event-7 c = search needs
+
+resume-requires : tie.Need-resume-requires
+unfolding numbersIn domainIn pageIn frameIn contextIn
+resume-requires c κs =
+    let n = two-below _ _ _ _ (rw (c .before .event7 .given .1) at (numbers (c .before .before .before))) in
+    (c .before .before .before .before .before .pre, n .0, n .1)
+
+enum-known-event-8 : tie.Need-enum-known-event-8
+enum-known-event-8 c = search needs
+
+spawn-requires : tie.Need-spawn-requires
+unfolding numbersIn domainIn pageIn frameIn contextIn
+spawn-requires c κs =
+    let n = two-below _ _ _ _ (rw (c .before .event8 .given .1) at (numbers (c .before .before .before))) in
+    (c .before .before .before .before .before .pre, n .0, n .1)
+
+enum-known-event-9 : tie.Need-enum-known-event-9
+enum-known-event-9 c = search needs
+
+leave-requires : tie.Need-leave-requires
+unfolding numbersIn domainIn pageIn frameIn contextIn
+leave-requires c κs =
+    let ready = c .before .before .before .before .before .pre in
+    (ready, ltb-true _ _ (rw (c .before .event9 .given .1) at (numbers (c .before .before .before))))
+
+enum-known-event-10 : tie.Need-enum-known-event-10
+enum-known-event-10 c = search needs
+
+cloak-requires : tie.Need-cloak-requires
+unfolding numbersIn domainIn pageIn frameIn contextIn
+cloak-requires c κs =
+    let n = two-below _ _ _ _ (rw (c .before .event10 .given .1) at (numbers (c .before .before .before))) in
+    (c .before .before .before .before .before .pre, n .0, n .1)
+
+enum-known-event-11 : tie.Need-enum-known-event-11
+enum-known-event-11 c = search needs
+
+uncloak-requires : tie.Need-uncloak-requires
+unfolding numbersIn domainIn pageIn frameIn contextIn
+uncloak-requires c κs =
+    let n = two-below _ _ _ _ (rw (c .before .event11 .given .1) at (numbers (c .before .before .before))) in
+    (c .before .before .before .before .before .pre, n .0, n .1)
+
+enum-known-event-12 : tie.Need-enum-known-event-12
+enum-known-event-12 c = search needs
+
+touch-requires : tie.Need-touch-requires
+unfolding numbersIn domainIn pageIn frameIn contextIn
+touch-requires c κs =
+    let n = two-below _ _ _ _ (rw (c .before .event12 .given .1) at (numbers (c .before .before .before))) in
+    (c .before .before .before .before .before .pre, n .0, n .1)
+
+enum-known-event-13 : tie.Need-enum-known-event-13
+enum-known-event-13 c = search needs
+
+touch-requires-2 : tie.Need-touch-requires-2
+unfolding numbersIn domainIn pageIn frameIn contextIn
+touch-requires-2 c κs =
+    let n = two-below _ _ _ _ (rw (c .before .event13 .given .1) at (numbers (c .before .before .before))) in
+    (c .before .before .before .before .before .pre, n .0, n .1)
+
+enum-known-event-14 : tie.Need-enum-known-event-14
+enum-known-event-14 c = search needs
+
+leave-requires-2 : tie.Need-leave-requires-2
+unfolding numbersIn domainIn pageIn frameIn contextIn
+leave-requires-2 c κs =
+    let ready = c .before .before .before .before .before .pre in
+    (ready, ltb-true _ _ (rw (c .before .event14 .given .1) at (numbers (c .before .before .before))))
+
+returns-2 : tie.Need-returns-2
+returns-2 c =
+    granted (c .before .before .before .before) _ (rw (c .before .before .event .given .1) (c .begin .ensures))
+
+returns-3 : tie.Need-returns-3
+returns-3 c = granted (c .before .before .before .before) _ (rw (c .before .before .event2 .given .1) (c .end .ensures))
+
+returns-4 : tie.Need-returns-4
+unfolding standing byRow row onRecords acting touching
+returns-4 c =
+    granted (c .before .before .before .before) _ (rw (c .before .before .event3 .given .1) (c .end2 .ensures))
+
+returns-5 : tie.Need-returns-5
+returns-5 c =
+    granted (c .before .before .before .before) _ (rw (c .before .before .event4 .given .1) (c .unmap .ensures))
+
+returns-6 : tie.Need-returns-6
+returns-6 c =
+    granted (c .before .before .before .before) _ (rw (c .before .before .event5 .given .1) (c .kernel .ensures))
+
+returns-7 : tie.Need-returns-7
+unfolding standing byRow row onRecords acting touching
+returns-7 c =
+    granted (c .before .before .before .before) _ (rw (c .before .before .event6 .given .1) (c .kernel2 .ensures))
+
+returns-8 : tie.Need-returns-8
+returns-8 c =
+    granted (c .before .before .before .before) _ (rw (c .before .before .event7 .given .1) (c .resume .ensures))
+
+returns-9 : tie.Need-returns-9
+returns-9 c =
+    granted (c .before .before .before .before) _ (rw (c .before .before .event8 .given .1) (c .spawn .ensures))
+
+returns-10 : tie.Need-returns-10
+returns-10 c =
+    granted (c .before .before .before .before) _ (rw (c .before .before .event9 .given .1) (c .leave .ensures))
+
+returns-11 : tie.Need-returns-11
+returns-11 c =
+    granted (c .before .before .before .before) _ (rw (c .before .before .event10 .given .1) (c .cloak .ensures))
+
+returns-12 : tie.Need-returns-12
+returns-12 c =
+    granted (c .before .before .before .before) _ (rw (c .before .before .event11 .given .1) (c .uncloak .ensures))
+
+returns-13 : tie.Need-returns-13
+returns-13 c =
+    granted (c .before .before .before .before) _ (rw (c .before .before .event12 .given .1) (c .touch .ensures))
+
+returns-14 : tie.Need-returns-14
+unfolding standing byRow row onRecords acting touching
+returns-14 c =
+    granted (c .before .before .before .before) _ (rw (c .before .before .event13 .given .1) (c .touch2 .ensures))
+
+returns-15 : tie.Need-returns-15
+unfolding standing byRow row onRecords acting touching
+returns-15 c =
+    granted (c .before .before .before .before) _ (rw (c .before .before .event14 .given .1) (c .leave2 .ensures))
+
+pub refusal-spec : {M : Type 1} → statement M
+refusal-spec =
+    tie.close
+    (tie.spec
+    by-form-requires
+    returns
+    enum-known-event
+    begin-requires
+    enum-known-event-2
+    end-requires
+    enum-known-event-3
+    end-requires-2
+    enum-known-event-4
+    unmap-requires
+    enum-known-event-5
+    kernel-requires
+    enum-known-event-6
+    kernel-requires-2
+    enum-known-event-7
+    resume-requires
+    enum-known-event-8
+    spawn-requires
+    enum-known-event-9
+    leave-requires
+    enum-known-event-10
+    cloak-requires
+    enum-known-event-11
+    uncloak-requires
+    enum-known-event-12
+    touch-requires
+    enum-known-event-13
+    touch-requires-2
+    enum-known-event-14
+    leave-requires-2
+    returns-2
+    returns-3
+    returns-4
+    returns-5
+    returns-6
+    returns-7
+    returns-8
+    returns-9
+    returns-10
+    returns-11
+    returns-12
+    returns-13
+    returns-14
+    returns-15)

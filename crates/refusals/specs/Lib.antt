@@ -1,0 +1,3 @@
+-- What the crate's contracts cite beside the rules.
+pub mod Stages
+pub mod Ready

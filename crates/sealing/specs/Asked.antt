@@ -1,0 +1,85 @@
+-- What sealing, unveiling and bringing in ask of the setup, the lent memory and the tables. All of it follows where
+-- the rules accept a machine and count enough signatures (proofs/Granted.antt). Assumes nothing.
+use mathlib.Core.Path.{_≡_}
+use mathlib.Core.List.{List}
+use Prim.Native.Nat.{ℕ, _+_, _*_, _≤_, _<_}
+use lib.ListN.{length}
+use lib.Dec.{T}
+use Rattle.rules.specs.Sizes.{maxDomains, maxPages, maxFrames, maxSignatures, pageNumber}
+use Rattle.rules.specs.Records.{namesOf, placeOf, isClearIn}
+use Rattle.rules.specs.Sealing.{sealedWith, needed}
+use Rattle.rules.specs.declared.Setup.{Setup}
+use Rattle.rules.specs.declared.Tables.{Tables}
+use Rattle.rules.specs.declared.Asid.{Asid}
+use Rattle.rules.specs.declared.Gvpn.{Gvpn}
+use Rattle.rules.specs.declared.Gppn.{Gppn}
+use Rattle.rules.specs.declared.Wear.{Wear}
+use Rattle.rules.specs.declared.Wear.the-variants.{Clean}
+use Rattle.rules.specs.declared.Place.the-variants.{Clear, Sealed}
+use Rattle.rules.specs.declared.Named.the-variants.{Page}
+use Rattle.sealing.specs.declared.Work.{Work}
+
+-- the sizes are within their limits
+pub record Limited (s : Setup) : Type 0 where
+  pub domains : s .domains ≤ maxDomains
+  pub pages : s .pages ≤ maxPages
+  pub frames : s .frames ≤ maxFrames
+  pub signatures : s .signatures ≤ maxSignatures
+
+-- the lent memory has the lengths that they give
+pub record Lent (s : Setup) (frames store supply : List ℕ) : Type 0 where
+  pub frames-long : length frames ≡ s .frames * s .size
+  pub store-long : length store ≡ s .domains * s .pages * s .size
+  pub supply-long : length supply ≡ s .signatures * s .size
+
+-- n is the number of the page d, v, and that of a slot and of a record
+pub record Numbered (s : Setup) (d : Asid) (v : Gvpn) (n : ℕ) : Type 0 where
+  pub is : n ≡ pageNumber s d v
+  pub slot : n < s .domains * s .pages
+  pub listed : n < maxDomains * maxPages
+
+-- the page that frame f names is one of the setup's, and there is a signature to seal it with
+pub record Ready (s : Setup) (t : Tables) (f : Gppn) : Type 0 where
+  pub domain : (d : Asid) (v : Gvpn) → namesOf t f ≡ Page d v → d .0 < s .domains
+  pub page : (d : Asid) (v : Gvpn) → namesOf t f ≡ Page d v → v .0 < s .pages
+  pub signature : (d : Asid) (v : Gvpn) (h : Gppn) (w : Wear) → namesOf t f ≡ Page d v → placeOf s t d v ≡ Clear h w
+      → sealedWith (t .used) w < s .signatures
+
+pub record Sealable (s : Setup) (work : Work) (frames store supply : List ℕ) (f : Gppn) : Type 0 where
+  pub limited : Limited s
+  pub lent : Lent s frames store supply
+  pub frame : f .0 < s .frames
+  pub ready : Ready s (work .tables) f
+  pub counts : work .seals < 255
+
+-- what unveiling at frame f asks beside a signature of the setup's
+pub record Reached (s : Setup) (work : Work) (frames store supply : List ℕ) (f : Gppn) (d : Asid) (v : Gvpn) : Type 0 where
+  pub limited : Limited s
+  pub lent : Lent s frames store supply
+  pub frame : f .0 < s .frames
+  pub domain : d .0 < s .domains
+  pub page : v .0 < s .pages
+  pub counts : work .unveils < 255
+
+-- the records agree on where the private pages are, as far as seals go by them
+pub record Matched (s : Setup) (t : Tables) : Type 0 where
+  pub pages-long : length (t .pages) ≡ maxDomains * maxPages
+  pub frames-long : length (t .frames) ≡ maxFrames
+  -- the page that a frame names is Clear in it
+  pub clear : (f : Gppn) (d : Asid) (v : Gvpn) → f .0 < s .frames → namesOf t f ≡ Page d v
+      → (d .0 < s .domains) × (v .0 < s .pages) × T (isClearIn f (placeOf s t d v))
+  -- a page is Clear in a frame of the setup's
+  pub held : (d : Asid) (v : Gvpn) (f : Gppn) (w : Wear) → d .0 < s .domains → v .0 < s .pages
+      → placeOf s t d v ≡ Clear f w → f .0 < s .frames
+  -- signature numbers are below the used count
+  pub worn : (d : Asid) (v : Gvpn) (f : Gppn) (k : ℕ) → d .0 < s .domains → v .0 < s .pages
+      → placeOf s t d v ≡ Clear f (Clean k) → k < t .used
+  pub sealed : (d : Asid) (v : Gvpn) (k : ℕ) → d .0 < s .domains → v .0 < s .pages → placeOf s t d v ≡ Sealed k → k < t .used
+
+-- what sealing the frames first, and then unveiling at frame f, asks
+pub record Bringable (s : Setup) (work : Work) (frames store supply : List ℕ) (f : Gppn) (d : Asid) (v : Gvpn)
+    (first : List Gppn) : Type 0 where
+  pub reached : Reached s work frames store supply f d v
+  pub matched : Matched s (work .tables)
+  pub enough : work .tables .used + needed s (work .tables) first ≤ s .signatures
+  pub counts : work .seals + length first < 256

@@ -1,0 +1,277 @@
+// Sealing and unveiling: the only ways in which a private page's bytes move between frames and store.
+// Each function asks what the rules' acceptance and their count of signatures give (specs/Asked.antt), and does what
+// the rule of its name says, with no byte and no record changed beside.
+ghost use mathlib.Core.Path.{_≡_};
+ghost use mathlib.Core.List.{List, [], _∷_};
+ghost use mathlib.Core.Bool.{cond};
+ghost use Prim.Native.Nat.{ℕ, _+_, _*_, _<_, _≤_};
+ghost use lib.ListN.{length};
+ghost use Rattle.rules.specs.Bytes.{part, withPart, sameBytes};
+ghost use Rattle.rules.specs.Sizes.{maxDomains};
+ghost use Rattle.rules.specs.Records.{given, placeOf, withLife, onTables};
+ghost use Rattle.rules.specs.Sealing.{sealedWith, takes, seal, sealAll, failed, unveil, sealedFirst, bringIn};
+ghost use Rattle.rules.specs.declared.Registers.{Registers};
+ghost use Rattle.rules.specs.declared.Life.the-variants.{Stopped};
+ghost use Rattle.sealing.specs.Under.{during, effect};
+ghost use Rattle.sealing.specs.Asked.{Limited, Numbered, Sealable, Reached, Bringable};
+use rules::Answer;
+use rules::Asid;
+use rules::DomainRecord;
+use rules::FrameRecord;
+use rules::Gppn;
+use rules::Gvpn;
+use rules::Life;
+use rules::Named;
+use rules::PageRecord;
+use rules::Place;
+use rules::Setup;
+use rules::Tables;
+use rules::Wear;
+
+// The tables and the counts of the event under way.
+pub struct Work {
+    pub tables: Tables,
+    pub seals: u8,
+    pub unveils: u8,
+}
+
+// What bringing a page in comes to: done, or the number of a failed unveiling.
+pub struct Brought {
+    pub work: Work,
+    pub number: u8,
+}
+
+// A page's number among all, by which the table has its record and the store its slot.
+pub fn page_number(setup: Setup, d: Asid, v: Gvpn) -> usize
+    requires { ⌜ (Limited setup) × (d .0 < setup .domains) × (v .0 < setup .pages) ⌝ }
+    ensures { λ r. ⌜ Numbered setup d v r ⌝ }
+{
+    (d.0 as usize) * setup.pages + (v.0 as usize)
+}
+
+// The number of the signature that a page is sealed with.
+fn sealed_with(used: u16, wear: Wear) -> u16
+    ensures { λ r. ⌜ r ≡ sealedWith used wear ⌝ }
+{
+    match wear {
+        Wear::Dirty => used,
+        Wear::Clean(k) => k,
+    }
+}
+
+// The count of used signatures after it.
+fn used_after(used: u16, wear: Wear) -> u16
+    requires { ⌜ sealedWith used wear < 65535 ⌝ }
+    ensures { λ r. ⌜ r ≡ used + takes wear ⌝ }
+{
+    match wear {
+        Wear::Dirty => used + 1,
+        Wear::Clean(_) => used,
+    }
+}
+
+// A page's record with another place: its mapping stays.
+fn placed(page: PageRecord, place: Place) -> PageRecord
+    ensures { λ r. ⌜ r ≡ record { mapping = page .mapping; place = place } ⌝ }
+{
+    let mapping = page.mapping;
+    PageRecord { mapping, place }
+}
+
+// Frame f is copied to its page's slot, and filled with signature k.
+fn seal_bytes(
+    size: usize,
+    frames: &mut [u8],
+    store: &mut [u8],
+    supply: &[u8],
+    f: usize,
+    slot: usize,
+    k: usize,
+)
+    requires { ⌜ (f * size + size ≤ length (now frames)) × (slot * size + size ≤ length (now store)) × (k * size + size ≤ length (now supply)) ⌝ }
+    ensures { λ _. ⌜ (now (frames .exit) ≡ withPart size f (part size k (now (supply .entry))) (now (frames .entry))) × (now (store .exit) ≡ withPart size slot (part size f (now (frames .entry))) (now (store .entry))) ⌝ }
+{
+    pages::copy_page(store, size, slot, pages::page(frames, size, f));
+    pages::copy_page(frames, size, f, pages::page(supply, size, k));
+}
+
+// What is Clear in frame f is sealed: nothing where the frame names no page.
+pub fn seal(
+    setup: Setup,
+    work: Work,
+    frames: &mut [u8],
+    store: &mut [u8],
+    supply: &[u8],
+    f: Gppn,
+) -> Work
+    requires { ⌜ Sealable setup work (now frames) (now store) (now supply) f ⌝ }
+    ensures { λ r. ⌜ ((saved : List Registers) → during r saved (now (frames .exit)) (now (store .exit)) ≡ seal (given setup (now (supply .entry))) f (during work saved (now (frames .entry)) (now (store .entry)))) ⌝ }
+{
+    let frame = f.0 as usize;
+    let mut tables = work.tables;
+    let claim = tables.frames[frame];
+    let names = claim.names;
+    let Named::Page(d, v) = names else {
+        return work;
+    };
+    let slot = page_number(setup, d, v);
+    let record = tables.pages[slot];
+    let place = record.place;
+    let Place::Clear(_, wear) = place else {
+        return work;
+    };
+    let used = tables.used;
+    let k = sealed_with(used, wear);
+    seal_bytes(setup.size, frames, store, supply, frame, slot, k as usize);
+    tables.pages[slot] = placed(record, Place::Sealed(k));
+    tables.frames[frame] = FrameRecord {
+        names: Named::Nothing,
+    };
+    tables.used = used_after(used, wear);
+    Work {
+        tables,
+        seals: work.seals + 1,
+        unveils: work.unveils,
+    }
+}
+
+// Where frame f holds signature k, the slot is copied over it: whether it did.
+fn unveil_bytes(
+    size: usize,
+    frames: &mut [u8],
+    store: &[u8],
+    supply: &[u8],
+    f: usize,
+    slot: usize,
+    k: usize,
+) -> bool
+    requires { ⌜ (f * size + size ≤ length (now frames)) × (slot * size + size ≤ length (now store)) × (k * size + size ≤ length (now supply)) ⌝ }
+    ensures { λ r. ⌜ (r ≡ sameBytes (part size f (now (frames .entry))) (part size k (now (supply .entry)))) × (now (frames .exit) ≡ cond r (withPart size f (part size slot (now (store .entry))) (now (frames .entry))) (now (frames .entry))) ⌝ }
+{
+    let start = k * size;
+    let end = start + size;
+    if pages::same_page(frames, size, f, &supply[start..end]) {
+        pages::copy_page(frames, size, f, pages::page(store, size, slot));
+        true
+    } else {
+        false
+    }
+}
+
+// An unveiling failed: domain d is Stopped.
+fn stopped(work: Work, d: Asid) -> Brought
+    requires { ⌜ d .0 < maxDomains ⌝ }
+    ensures { λ r. ⌜ ((saved : List Registers) (frames store : List ℕ) → effect r saved frames store ≡ failed (onTables (withLife d Stopped) (during work saved frames store))) ⌝ }
+{
+    let domain = d.0 as usize;
+    let mut tables = work.tables;
+    tables.domains[domain] = DomainRecord {
+        life: Life::Stopped,
+    };
+    let after = Work {
+        tables,
+        seals: work.seals,
+        unveils: work.unveils,
+    };
+    Brought {
+        work: after,
+        number: Answer::NOT_UNVEILED,
+    }
+}
+
+// The page d, v, Sealed with signature k, is unveiled at frame f, which names none; or its domain is Stopped.
+pub fn unveil(
+    setup: Setup,
+    work: Work,
+    frames: &mut [u8],
+    store: &[u8],
+    supply: &[u8],
+    f: Gppn,
+    d: Asid,
+    v: Gvpn,
+    k: u16,
+) -> Brought
+    requires { ⌜ (Reached setup work (now frames) (now store) (now supply) f d v) × (k < setup .signatures) ⌝ }
+    ensures { λ r. ⌜ ((saved : List Registers) → effect r saved (now (frames .exit)) (now (store .entry)) ≡ unveil (given setup (now (supply .entry))) f d v k (during work saved (now (frames .entry)) (now (store .entry)))) ⌝ }
+{
+    let slot = page_number(setup, d, v);
+    let frame = f.0 as usize;
+    if unveil_bytes(setup.size, frames, store, supply, frame, slot, k as usize) {
+        let mut tables = work.tables;
+        let record = tables.pages[slot];
+        tables.pages[slot] = placed(record, Place::Clear(f, Wear::Clean(k)));
+        tables.frames[frame] = FrameRecord {
+            names: Named::Page(d, v),
+        };
+        let after = Work {
+            tables,
+            seals: work.seals,
+            unveils: work.unveils + 1,
+        };
+        return Brought {
+            work: after,
+            number: Answer::DONE,
+        };
+    }
+    stopped(work, d)
+}
+
+// What is Clear in frame f is sealed; then the page d, v, if it is Sealed, is unveiled there.
+fn seal_and_unveil(
+    setup: Setup,
+    work: Work,
+    frames: &mut [u8],
+    store: &mut [u8],
+    supply: &[u8],
+    f: Gppn,
+    d: Asid,
+    v: Gvpn,
+) -> Brought
+    requires { ⌜ Bringable setup work (now frames) (now store) (now supply) f d v (f ∷ []) ⌝ }
+    ensures { λ r. ⌜ ((saved : List Registers) → effect r saved (now (frames .exit)) (now (store .exit)) ≡ bringIn (given setup (now (supply .entry))) f d v (seal (given setup (now (supply .entry))) f (during work saved (now (frames .entry)) (now (store .entry))))) ⌝ }
+{
+    let sealed = seal(setup, work, frames, store, supply, f);
+    let slot = page_number(setup, d, v);
+    let tables = sealed.tables;
+    let record = tables.pages[slot];
+    let place = record.place;
+    let Place::Sealed(k) = place else {
+        return Brought {
+            work: sealed,
+            number: Answer::DONE,
+        };
+    };
+    unveil(setup, sealed, frames, store, supply, f, d, v, k)
+}
+
+// The page d, v, mapped to frame f, is brought in: nothing where it is Clear there; else it is sealed where it is Clear,
+// then what is Clear in f, and unveiled at f. Of a Public page what is Clear in f is sealed.
+pub fn bring_in(
+    setup: Setup,
+    work: Work,
+    frames: &mut [u8],
+    store: &mut [u8],
+    supply: &[u8],
+    f: Gppn,
+    d: Asid,
+    v: Gvpn,
+) -> Brought
+    requires { ⌜ Bringable setup work (now frames) (now store) (now supply) f d v (sealedFirst f (placeOf setup (work .tables) d v)) ⌝ }
+    ensures { λ r. ⌜ ((saved : List Registers) → effect r saved (now (frames .exit)) (now (store .exit)) ≡ bringIn (given setup (now (supply .entry))) f d v (sealAll (given setup (now (supply .entry))) (sealedFirst f (placeOf setup (work .tables) d v)) (during work saved (now (frames .entry)) (now (store .entry))))) ⌝ }
+{
+    let slot = page_number(setup, d, v);
+    let tables = work.tables;
+    let record = tables.pages[slot];
+    let place = record.place;
+    let Place::Clear(home, _) = place else {
+        return seal_and_unveil(setup, work, frames, store, supply, f, d, v);
+    };
+    if home.0 == f.0 {
+        return Brought {
+            work,
+            number: Answer::DONE,
+        };
+    }
+    let sealed = seal(setup, work, frames, store, supply, home);
+    seal_and_unveil(setup, sealed, frames, store, supply, f, d, v)
+}
