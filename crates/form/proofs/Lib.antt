@@ -1,0 +1,7 @@
+-- The laws of the form, for reader and writer to cite.
+pub mod Table
+pub mod Events
+pub mod Heads
+pub mod Headers
+pub mod Checks
+pub mod OneAnswer

@@ -1,0 +1,11 @@
+pub mod Contents
+pub mod Turns
+pub mod Contexts
+pub mod Pages
+pub mod Tells
+pub mod Runs
+pub mod Gives
+pub mod Older
+pub mod Stopping
+pub mod Last
+pub mod Freshness

@@ -1,0 +1,2 @@
+-- How fields of any width stand in whole bytes.
+pub mod Packing

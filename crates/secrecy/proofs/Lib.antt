@@ -1,0 +1,9 @@
+pub mod Alike
+pub mod Registers
+pub mod Operations
+pub mod Touched
+pub mod Events
+pub mod Runs
+pub mod Starts
+pub mod Secrecy
+pub mod Example

@@ -1,0 +1,6 @@
+-- The theorems, and what they rest on.
+pub mod Records
+pub mod Lists
+pub mod Wholes
+pub mod RoundTrip
+pub mod Example

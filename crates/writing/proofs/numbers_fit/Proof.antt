@@ -1,0 +1,22 @@
+-- `writing::numbers_fit` meets its contract: the list of tests is their conjunction.
+use mathlib.Core.Bool.{and-true}
+use borrow.Author.Needs.{needs}
+use Rattle.rules.specs.Bytes.{allOf}
+use Rattle.writing.specs.Writing.{numbersFit}
+use Rattle.writing.proofs.numbers_fit.Statement.{statement}
+use Rattle.writing.proofs.numbers_fit.Tie as tie
+
+returns : tie.Need-returns
+unfolding numbersFit allOf
+returns c = simp and-true (cc)
+
+pub numbers-fit-spec : {M : Type 1} → statement M
+numbers-fit-spec =
+    tie.close
+    (tie.spec
+    (λ c κs. search needs)
+    (λ c κs. search needs)
+    (λ c κs. search needs)
+    (λ c κs. search needs)
+    (λ c κs. search needs)
+    returns)

@@ -1,0 +1,2 @@
+-- What writing a trace gives.
+pub mod Writing
