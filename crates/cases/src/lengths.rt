@@ -1,0 +1,272 @@
+// Data of a wrong length for each kind, spans that do not fit a page, and answer buffers that are too short.
+use crate::world;
+use crate::world::ROOM;
+use crate::world::World;
+use rules::Asid;
+use rules::Ctc;
+use rules::Event;
+use rules::Gppn;
+use rules::Gvpn;
+use rules::Span;
+use rules::TrapKind;
+
+// The largest usize.
+const HUGE: usize = 18446744073709551615;
+
+pub fn all(base: World) {
+    no_data(base);
+    no_data_in_application(base);
+    kernel_write_data(base);
+    write_data(base);
+    resume_data(base);
+    trap_data(base);
+    spans(base);
+    room(base);
+    room_in_application(base);
+    room_for_registers(base);
+}
+
+// One byte where there is to be none.
+fn no_data(base: World) {
+    let span = world::whole();
+    world::step(
+        b"begin data 1",
+        base,
+        Event::Begin(Asid(0), Ctc(0)),
+        b"!",
+        ROOM,
+    );
+    world::step(b"end data 1", base, Event::End(Asid(0)), b"!", ROOM);
+    world::step(
+        b"map data 1",
+        base,
+        Event::Map(Asid(0), Gvpn(1), Gppn(0)),
+        b"!",
+        ROOM,
+    );
+    world::step(
+        b"unmap data 1",
+        base,
+        Event::Unmap(Asid(0), Gvpn(1)),
+        b"!",
+        ROOM,
+    );
+    world::step(
+        b"kernel read data 1",
+        base,
+        Event::KernelRead(Gppn(1), span),
+        b"!",
+        ROOM,
+    );
+}
+
+fn no_data_in_application(base: World) {
+    let span = world::whole();
+    world::step(
+        b"spawn data 1",
+        base,
+        Event::Spawn(Ctc(0), Ctc(0)),
+        b"!",
+        ROOM,
+    );
+    world::step(b"leave data 1", base, Event::Leave(Ctc(0)), b"!", ROOM);
+    world::step(
+        b"cloak data 1",
+        base,
+        Event::Cloak(Ctc(0), Gvpn(1)),
+        b"!",
+        ROOM,
+    );
+    world::step(
+        b"uncloak data 1",
+        base,
+        Event::Uncloak(Ctc(0), Gvpn(1)),
+        b"!",
+        ROOM,
+    );
+    world::step(
+        b"read data 1",
+        base,
+        Event::Read(Ctc(0), Gvpn(1), span),
+        b"!",
+        ROOM,
+    );
+}
+
+fn kernel_write_data(base: World) {
+    let event = Event::KernelWrite(Gppn(1), Span { off: 0, len: 2 });
+    world::step(b"kernel write 2 data 0", base, event, b"", ROOM);
+    world::step(b"kernel write 2 data 1", base, event, b"!", ROOM);
+    world::step(b"kernel write 2 data 2", base, event, b"!!", ROOM);
+    world::step(b"kernel write 2 data 3", base, event, b"!!!", ROOM);
+}
+
+fn write_data(base: World) {
+    let event = Event::Write(Ctc(0), Gvpn(1), Span { off: 0, len: 2 });
+    world::step(b"write 2 data 0", base, event, b"", ROOM);
+    world::step(b"write 2 data 1", base, event, b"!", ROOM);
+    world::step(b"write 2 data 2", base, event, b"!!", ROOM);
+    world::step(b"write 2 data 3", base, event, b"!!!", ROOM);
+}
+
+// Of the right length, the event is refused because context 0 is not Kept.
+fn resume_data(base: World) {
+    let event = Event::Resume(Asid(0), Ctc(0));
+    world::step(b"resume data 0", base, event, b"", ROOM);
+    world::step(b"resume data 7", base, event, b"0123456", ROOM);
+    world::step(b"resume data 8", base, event, b"01234567", ROOM);
+    world::step(b"resume data 9", base, event, b"012345678", ROOM);
+}
+
+fn trap_data(base: World) {
+    let event = Event::Trap(Ctc(0), TrapKind::Call, 255);
+    let short = [b'r'; 63];
+    let right = [b'r'; 64];
+    let long = [b'r'; 65];
+    world::step(b"trap data 0", base, event, b"", ROOM);
+    world::step(b"trap data 63", base, event, &short, ROOM);
+    world::step(b"trap data 64", base, event, &right, ROOM);
+    world::step(b"trap data 65", base, event, &long, ROOM);
+}
+
+fn spans(base: World) {
+    span(b"off 0 len 0", base, Span { off: 0, len: 0 }, b"");
+    span(b"off 16 len 0", base, Span { off: 16, len: 0 }, b"");
+    span(b"off 15 len 1", base, Span { off: 15, len: 1 }, b"!");
+    span(b"off 15 len 2", base, Span { off: 15, len: 2 }, b"!!");
+    span(b"off 16 len 1", base, Span { off: 16, len: 1 }, b"!");
+    span(
+        b"off 0 len 17",
+        base,
+        Span { off: 0, len: 17 },
+        b"seventeen bytes..",
+    );
+    span(b"off huge len 1", base, Span { off: HUGE, len: 1 }, b"!");
+    span(b"off 1 len huge", base, Span { off: 1, len: HUGE }, b"!");
+    span(
+        b"off huge len huge",
+        base,
+        Span {
+            off: HUGE,
+            len: HUGE,
+        },
+        b"",
+    );
+}
+
+// One span in each of the four events that have one; the data is for those that write.
+fn span(name: &[u8], base: World, s: Span, data: &[u8]) {
+    world::step_as(
+        b"step kernel read ",
+        name,
+        base,
+        Event::KernelRead(Gppn(1), s),
+        b"",
+        ROOM,
+    );
+    world::step_as(
+        b"step kernel write ",
+        name,
+        base,
+        Event::KernelWrite(Gppn(1), s),
+        data,
+        ROOM,
+    );
+    world::step_as(
+        b"step read ",
+        name,
+        base,
+        Event::Read(Ctc(0), Gvpn(1), s),
+        b"",
+        ROOM,
+    );
+    world::step_as(
+        b"step write ",
+        name,
+        base,
+        Event::Write(Ctc(0), Gvpn(1), s),
+        data,
+        ROOM,
+    );
+}
+
+fn room(base: World) {
+    let s = Span { off: 2, len: 4 };
+    world::step(
+        b"kernel read 4 room 0",
+        base,
+        Event::KernelRead(Gppn(1), s),
+        b"",
+        0,
+    );
+    world::step(
+        b"kernel read 4 room 3",
+        base,
+        Event::KernelRead(Gppn(1), s),
+        b"",
+        3,
+    );
+    world::step(
+        b"kernel read 4 room 4",
+        base,
+        Event::KernelRead(Gppn(1), s),
+        b"",
+        4,
+    );
+}
+
+fn room_in_application(base: World) {
+    let s = Span { off: 2, len: 4 };
+    world::step(
+        b"read 4 room 0",
+        base,
+        Event::Read(Ctc(0), Gvpn(1), s),
+        b"",
+        0,
+    );
+    world::step(
+        b"read 4 room 3",
+        base,
+        Event::Read(Ctc(0), Gvpn(1), s),
+        b"",
+        3,
+    );
+    world::step(
+        b"read 4 room 4",
+        base,
+        Event::Read(Ctc(0), Gvpn(1), s),
+        b"",
+        4,
+    );
+}
+
+// Resume is tried on a context that is Kept; each of these gives eight registers.
+fn room_for_registers(base: World) {
+    let words = [b'r'; 64];
+    let value = b"01234567";
+    let trap = Event::Trap(Ctc(0), TrapKind::Call, 255);
+    world::step(b"trap room 63", base, trap, &words, 63);
+    world::step(b"trap room 64", base, trap, &words, 64);
+    let stopped = world::after(base, trap, &words);
+    world::step(
+        b"resume room 0",
+        stopped,
+        Event::Resume(Asid(0), Ctc(0)),
+        value,
+        0,
+    );
+    world::step(
+        b"resume room 63",
+        stopped,
+        Event::Resume(Asid(0), Ctc(0)),
+        value,
+        63,
+    );
+    world::step(
+        b"resume room 64",
+        stopped,
+        Event::Resume(Asid(0), Ctc(0)),
+        value,
+        64,
+    );
+}
