@@ -1,6 +1,20 @@
 // An event that is granted is done: each of document 01's fourteen by the function of its name.
 ghost use mathlib.Core.Path.{_≡_};
 ghost use Rattle.stepping.specs.Left.{left, refuses, stepped};
+use application::cloak;
+use application::read;
+use application::uncloak;
+use application::write;
+use kernel::end;
+use kernel::kernel_read;
+use kernel::kernel_write;
+use records::begin;
+use records::leave;
+use records::map;
+use records::resume;
+use records::spawn;
+use records::trap;
+use records::unmap;
 use rules::Event;
 use rules::Setup;
 use rules::State;
@@ -21,143 +35,23 @@ pub fn perform(
     ensures { λ r. ⌜ left r (now (frames .exit)) (now (store .exit)) (now (answer .exit)) ≡ stepped setup state (now (frames .entry)) (now (store .entry)) (now (supply .entry)) event (now («data» .entry)) (now (answer .entry)) ⌝ }
 {
     match event {
-        Event::Begin(d, c) => records::begin(
-            setup,
-            state,
-            frames,
-            store,
-            supply,
-            d,
-            c,
-            data,
-            answer,
-        ),
-        Event::End(d) => kernel::end(setup, state, frames, store, supply, d, data, answer),
-        Event::Map(d, v, f) => records::map(
-            setup,
-            state,
-            frames,
-            store,
-            supply,
-            d,
-            v,
-            f,
-            data,
-            answer,
-        ),
-        Event::Unmap(d, v) => records::unmap(
-            setup,
-            state,
-            frames,
-            store,
-            supply,
-            d,
-            v,
-            data,
-            answer,
-        ),
-        Event::KernelRead(f, span) => kernel::kernel_read(
-            setup,
-            state,
-            frames,
-            store,
-            supply,
-            f,
-            span,
-            data,
-            answer,
-        ),
-        Event::KernelWrite(f, span) => kernel::kernel_write(
-            setup,
-            state,
-            frames,
-            store,
-            supply,
-            f,
-            span,
-            data,
-            answer,
-        ),
-        Event::Resume(d, c) => records::resume(
-            setup,
-            state,
-            frames,
-            store,
-            supply,
-            d,
-            c,
-            data,
-            answer,
-        ),
-        Event::Spawn(c, u) => records::spawn(
-            setup,
-            state,
-            frames,
-            store,
-            supply,
-            c,
-            u,
-            data,
-            answer,
-        ),
-        Event::Leave(c) => records::leave(setup, state, frames, store, supply, c, data, answer),
-        Event::Cloak(c, v) => application::cloak(
-            setup,
-            state,
-            frames,
-            store,
-            supply,
-            c,
-            v,
-            data,
-            answer,
-        ),
-        Event::Uncloak(c, v) => application::uncloak(
-            setup,
-            state,
-            frames,
-            store,
-            supply,
-            c,
-            v,
-            data,
-            answer,
-        ),
-        Event::Read(c, v, span) => application::read(
-            setup,
-            state,
-            frames,
-            store,
-            supply,
-            c,
-            v,
-            span,
-            data,
-            answer,
-        ),
-        Event::Write(c, v, span) => application::write(
-            setup,
-            state,
-            frames,
-            store,
-            supply,
-            c,
-            v,
-            span,
-            data,
-            answer,
-        ),
-        Event::Trap(c, kind, mask) => records::trap(
-            setup,
-            state,
-            frames,
-            store,
-            supply,
-            c,
-            kind,
-            mask,
-            data,
-            answer,
-        ),
+        Event::Begin(d, c) => begin(setup, state, frames, store, supply, d, c, data, answer),
+        Event::End(d) => end(setup, state, frames, store, supply, d, data, answer),
+        Event::Map(d, v, f) => map(setup, state, frames, store, supply, d, v, f, data, answer),
+        Event::Unmap(d, v) => unmap(setup, state, frames, store, supply, d, v, data, answer),
+        Event::KernelRead(f, s) => {
+            kernel_read(setup, state, frames, store, supply, f, s, data, answer)
+        }
+        Event::KernelWrite(f, s) => {
+            kernel_write(setup, state, frames, store, supply, f, s, data, answer)
+        }
+        Event::Resume(d, c) => resume(setup, state, frames, store, supply, d, c, data, answer),
+        Event::Spawn(c, u) => spawn(setup, state, frames, store, supply, c, u, data, answer),
+        Event::Leave(c) => leave(setup, state, frames, store, supply, c, data, answer),
+        Event::Cloak(c, v) => cloak(setup, state, frames, store, supply, c, v, data, answer),
+        Event::Uncloak(c, v) => uncloak(setup, state, frames, store, supply, c, v, data, answer),
+        Event::Read(c, v, s) => read(setup, state, frames, store, supply, c, v, s, data, answer),
+        Event::Write(c, v, s) => write(setup, state, frames, store, supply, c, v, s, data, answer),
+        Event::Trap(c, k, m) => trap(setup, state, frames, store, supply, c, k, m, data, answer),
     }
 }

@@ -1,6 +1,6 @@
 -- A `match` on an event that names some kinds leaves the rest to one arm, which is told that the kind is one of those.
 -- Assumes nothing.
-use mathlib.Core.Path.{refl}
+use mathlib.Core.Path.{_≡_, refl}
 use mathlib.Core.List.{List, [], _∷_}
 use mathlib.Core.Bool.{true}
 use Prim.Native.Nat.{ℕ}
@@ -8,21 +8,18 @@ use denote.Enum.Declared.{tagOf}
 use types.Run.{OneOf, miss}
 use Rattle.rules.specs.Events.{row, onRecords, acting, onPage}
 use Rattle.rules.proofs.Event.{the-type}
-use Rattle.refusals.specs.Stages.{FormOf}
+use Rattle.refusals.specs.Stages.{FormOf, formWith}
 use Rattle.rules.specs.declared.Setup.{Setup}
 use Rattle.rules.specs.declared.Event.{Event}
 use Rattle.rules.specs.declared.Event.the-variants.{Begin, End, Map, Unmap, KernelRead, KernelWrite, Resume, Spawn, Leave, Cloak, Uncloak, Read, Write, Trap}
 use Rattle.refusals.specs.declared.form.Form.{Form}
 
-abbrev plain : Form
-plain = record { mask = true; span = true; new = 0; answer = 0 }
-
 -- all kinds but those with a span, resume and trap
 abbrev rest : List ℕ
 rest = 0 ∷ 1 ∷ 2 ∷ 3 ∷ 7 ∷ 8 ∷ 9 ∷ 10 ∷ []
 
-pub form-of-rest : (s : Setup) (e : Event) → OneOf rest (tagOf the-type e) → FormOf s e plain
-unfolding row onRecords acting onPage
+pub form-of-rest : (s : Setup) (e : Event) → OneOf rest (tagOf the-type e) → FormOf s e (formWith true true 0 0)
+unfolding formWith row onRecords acting onPage
 form-of-rest s (Begin d c) k = record { mask = λ t. refl; span = λ t. refl; new = refl; answer = refl }
 form-of-rest s (End d) k = record { mask = λ t. refl; span = λ t. refl; new = refl; answer = refl }
 form-of-rest s (Map d v f) k = record { mask = λ t. refl; span = λ t. refl; new = refl; answer = refl }
@@ -37,3 +34,13 @@ form-of-rest s (Uncloak c v) k = record { mask = λ t. refl; span = λ t. refl; 
 form-of-rest s (Read c v x) k = absurd (miss rest 11 tt k)
 form-of-rest s (Write c v x) k = absurd (miss rest 12 tt k)
 form-of-rest s (Trap c i m) k = absurd (miss rest 13 tt k)
+
+-- the form of the event that is known is the form of the event
+pub told : {s : Setup} {e known : Event} {f made : Form} → e ≡ known → f ≡ made → FormOf s known made → FormOf s e f
+told e f x =
+    record {
+      mask = λ t. rw (e, f) (x .mask t);
+      span = λ t. rw (e, f) (x .span t);
+      new = rw (e, f) (x .new);
+      answer = rw (e, f) (x .answer);
+    }

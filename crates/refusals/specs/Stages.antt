@@ -28,6 +28,9 @@ unfoldable pub byForm : Setup → Event → Row → ℕ → ℕ → List Check
 byForm s e r new room =
     formChecks (r .mask) (numbersIn s e) (allOf (r .span ∷ eqb new (dataLength e) ∷ [])) (ltb room (answerLength e))
 
+unfoldable pub formWith : Bool → Bool → ℕ → ℕ → Form
+formWith m s n a = record { mask = m; span = s; new = n; answer = a }
+
 -- what the columns of the rules that ask no table say of an event
 pub record FormOf (s : Setup) (e : Event) (f : Form) : Type 0 where
   pub mask : (t : Tables) → f .mask ≡ (row s t e) .mask

@@ -8,7 +8,7 @@ ghost use Rattle.rules.specs.Events.{row, numbersIn, spanFits, maskFits};
 ghost use Rattle.rules.specs.Answers.{firstOf};
 ghost use Rattle.rules.specs.declared.Setup.{Setup};
 ghost use Rattle.rules.specs.declared.Tables.{Tables};
-ghost use Rattle.refusals.specs.Stages.{formChecks, byForm, FormOf};
+ghost use Rattle.refusals.specs.Stages.{formChecks, byForm, FormOf, formWith};
 use rules::Answer;
 use rules::Event;
 use rules::Setup;
@@ -95,53 +95,29 @@ pub struct Form {
     pub answer: usize,
 }
 
+fn form_with(mask: bool, span: bool, new: usize, answer: usize) -> Form
+    ensures { λ r. ⌜ r ≡ formWith mask span new answer ⌝ }
+{
+    Form {
+        mask,
+        span,
+        new,
+        answer,
+    }
+}
+
 // The kinds that are not named have no mask and no span, and come with no data and no answer.
 fn form_of(setup: Setup, event: Event) -> Form
     ensures { λ r. ⌜ FormOf setup event r ⌝ }
 {
     match event {
-        Event::KernelRead(_, x) => Form {
-            mask: true,
-            span: span_fits(setup, x),
-            new: 0,
-            answer: x.len,
-        },
-        Event::KernelWrite(_, x) => Form {
-            mask: true,
-            span: span_fits(setup, x),
-            new: x.len,
-            answer: 0,
-        },
-        Event::Resume(_, _) => Form {
-            mask: true,
-            span: true,
-            new: 8,
-            answer: 64,
-        },
-        Event::Read(_, _, x) => Form {
-            mask: true,
-            span: span_fits(setup, x),
-            new: 0,
-            answer: x.len,
-        },
-        Event::Write(_, _, x) => Form {
-            mask: true,
-            span: span_fits(setup, x),
-            new: x.len,
-            answer: 0,
-        },
-        Event::Trap(_, kind, mask) => Form {
-            mask: mask_fits(kind, mask),
-            span: true,
-            new: 64,
-            answer: 64,
-        },
-        _ => Form {
-            mask: true,
-            span: true,
-            new: 0,
-            answer: 0,
-        },
+        Event::KernelRead(_, x) => form_with(true, span_fits(setup, x), 0, x.len),
+        Event::KernelWrite(_, x) => form_with(true, span_fits(setup, x), x.len, 0),
+        Event::Resume(_, _) => form_with(true, true, 8, 64),
+        Event::Read(_, _, x) => form_with(true, span_fits(setup, x), 0, x.len),
+        Event::Write(_, _, x) => form_with(true, span_fits(setup, x), x.len, 0),
+        Event::Trap(_, kind, mask) => form_with(mask_fits(kind, mask), true, 64, 64),
+        _ => form_with(true, true, 0, 0),
     }
 }
 

@@ -9,14 +9,14 @@ ghost use Rattle.rules.specs.Records.{given, machine};
 ghost use Rattle.rules.specs.Sound as rule;
 ghost use Rattle.rules.specs.Answers.{startRefusal};
 
-mod conditions;
 mod entries;
 mod spots;
 mod tables;
+mod values;
 
-use conditions::both;
 use rules::Setup;
 use rules::State;
+use values::both;
 
 // Whether a state is sound.
 pub fn sound(setup: Setup, state: State) -> bool

@@ -11,6 +11,7 @@ use rules::Registers;
 use rules::Setup;
 use rules::Tables;
 
+// Domains past the sizes are as freshly started.
 pub fn domains_sound(setup: Setup, domains: [DomainRecord; Setup::MAX_DOMAINS]) -> bool
     ensures { λ r. ⌜ r ≡ allFrom (domainSound setup) 0 domains ⌝ }
 {
@@ -25,6 +26,7 @@ pub fn domains_sound(setup: Setup, domains: [DomainRecord; Setup::MAX_DOMAINS]) 
     true
 }
 
+// A context is in a domain of the setup that is not Empty, or in none.
 pub fn contexts_sound(setup: Setup, t: Tables) -> bool
     ensures { λ r. ⌜ r ≡ allFrom (contextSound setup t) 0 (t .contexts) ⌝ }
 {
@@ -42,6 +44,7 @@ pub fn contexts_sound(setup: Setup, t: Tables) -> bool
     true
 }
 
+// Registers of contexts past the sizes are as freshly started.
 pub fn saved_sound(setup: Setup, saved: [Registers; Setup::MAX_CONTEXTS]) -> bool
     ensures { λ r. ⌜ r ≡ allFrom (savedSound setup) 0 saved ⌝ }
 {
@@ -79,6 +82,7 @@ pub fn pages_sound(setup: Setup, t: Tables) -> bool
     true
 }
 
+// A frame names a page that is Clear in it, or none.
 pub fn frames_sound(setup: Setup, t: Tables) -> bool
     ensures { λ r. ⌜ r ≡ allFrom (frameSound setup t) 0 (t .frames) ⌝ }
 {

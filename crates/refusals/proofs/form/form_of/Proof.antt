@@ -1,7 +1,9 @@
 -- `form::form_of` meets its contract, event by event; the kinds that are not named have no mask, span, data or answer.
+use mathlib.Core.Path.{refl}
 use borrow.Author.Needs.{needs}
 use Rattle.rules.specs.Events.{row, onRecords, onFrame, acting, onPage, touching}
-use Rattle.refusals.proofs.Others.{form-of-rest}
+use Rattle.refusals.specs.Stages.{formWith}
+use Rattle.refusals.proofs.Others.{form-of-rest, told}
 use Rattle.refusals.proofs.form.form_of.Statement.{statement}
 use Rattle.refusals.proofs.form.form_of.Tie as tie
 
@@ -11,14 +13,23 @@ enum-known-event c = search needs
 span-fits-requires : tie.Need-span-fits-requires
 span-fits-requires c κs = search needs
 
+form-with-requires : tie.Need-form-with-requires
+form-with-requires c κs = search needs
+
 enum-known-event-2 : tie.Need-enum-known-event-2
 enum-known-event-2 c = search needs
 
 span-fits-requires-2 : tie.Need-span-fits-requires-2
 span-fits-requires-2 c κs = search needs
 
+form-with-requires-2 : tie.Need-form-with-requires-2
+form-with-requires-2 c κs = search needs
+
 enum-told : tie.Need-enum-told
 enum-told c = search needs
+
+form-with-requires-3 : tie.Need-form-with-requires-3
+form-with-requires-3 c κs = search needs
 
 enum-known-event-3 : tie.Need-enum-known-event-3
 enum-known-event-3 c = search needs
@@ -26,11 +37,17 @@ enum-known-event-3 c = search needs
 span-fits-requires-3 : tie.Need-span-fits-requires-3
 span-fits-requires-3 c κs = search needs
 
+form-with-requires-4 : tie.Need-form-with-requires-4
+form-with-requires-4 c κs = search needs
+
 enum-known-event-4 : tie.Need-enum-known-event-4
 enum-known-event-4 c = search needs
 
 span-fits-requires-4 : tie.Need-span-fits-requires-4
 span-fits-requires-4 c κs = search needs
+
+form-with-requires-5 : tie.Need-form-with-requires-5
+form-with-requires-5 c κs = search needs
 
 enum-known-event-5 : tie.Need-enum-known-event-5
 enum-known-event-5 c = search needs
@@ -38,68 +55,50 @@ enum-known-event-5 c = search needs
 mask-fits-requires : tie.Need-mask-fits-requires
 mask-fits-requires c κs = search needs
 
+form-with-requires-6 : tie.Need-form-with-requires-6
+form-with-requires-6 c κs = search needs
+
+form-with-requires-7 : tie.Need-form-with-requires-7
+form-with-requires-7 c κs = search needs
+
 returns : tie.Need-returns
-unfolding row onRecords onFrame acting onPage touching
+unfolding formWith row onRecords onFrame acting onPage touching
 returns c =
-    record {
-      mask = λ t. rw (c .before .before .event .given .1);
-      span = λ t. rw (c .before .before .event .given .1) (c .span-fits .ensures);
-      new = rw (c .before .before .event .given .1);
-      answer = rw (c .before .before .event .given .1);
-    }
+    told (c .before .before .before .event .given .1) (c .form-with .ensures)
+    (record { mask = λ t. refl; span = λ t. c .before .span-fits .ensures; new = refl; answer = refl })
 
 returns-2 : tie.Need-returns-2
-unfolding row onRecords onFrame acting onPage touching
+unfolding formWith row onRecords onFrame acting onPage touching
 returns-2 c =
-    record {
-      mask = λ t. rw (c .before .before .event2 .given .1);
-      span = λ t. rw (c .before .before .event2 .given .1) (c .span-fits2 .ensures);
-      new = rw (c .before .before .event2 .given .1);
-      answer = rw (c .before .before .event2 .given .1);
-    }
+    told (c .before .before .before .event2 .given .1) (c .form-with2 .ensures)
+    (record { mask = λ t. refl; span = λ t. c .before .span-fits2 .ensures; new = refl; answer = refl })
 
 returns-3 : tie.Need-returns-3
-unfolding row onRecords onFrame acting onPage touching
+unfolding formWith row onRecords onFrame acting onPage touching
 returns-3 c =
-    record {
-      mask = λ t. rw (c .enum-told .given .1);
-      span = λ t. rw (c .enum-told .given .1);
-      new = rw (c .enum-told .given .1);
-      answer = rw (c .enum-told .given .1);
-    }
+    told (c .before .enum-told .given .1) (c .form-with3 .ensures)
+    (record { mask = λ t. refl; span = λ t. refl; new = refl; answer = refl })
 
 returns-4 : tie.Need-returns-4
-unfolding row onRecords onFrame acting onPage touching
+unfolding formWith row onRecords onFrame acting onPage touching
 returns-4 c =
-    record {
-      mask = λ t. rw (c .before .before .event3 .given .1);
-      span = λ t. rw (c .before .before .event3 .given .1) (c .span-fits3 .ensures);
-      new = rw (c .before .before .event3 .given .1);
-      answer = rw (c .before .before .event3 .given .1);
-    }
+    told (c .before .before .before .event3 .given .1) (c .form-with4 .ensures)
+    (record { mask = λ t. refl; span = λ t. c .before .span-fits3 .ensures; new = refl; answer = refl })
 
 returns-5 : tie.Need-returns-5
-unfolding row onRecords onFrame acting onPage touching
+unfolding formWith row onRecords onFrame acting onPage touching
 returns-5 c =
-    record {
-      mask = λ t. rw (c .before .before .event4 .given .1);
-      span = λ t. rw (c .before .before .event4 .given .1) (c .span-fits4 .ensures);
-      new = rw (c .before .before .event4 .given .1);
-      answer = rw (c .before .before .event4 .given .1);
-    }
+    told (c .before .before .before .event4 .given .1) (c .form-with5 .ensures)
+    (record { mask = λ t. refl; span = λ t. c .before .span-fits4 .ensures; new = refl; answer = refl })
 
 returns-6 : tie.Need-returns-6
-unfolding row onRecords onFrame acting onPage touching
+unfolding formWith row onRecords onFrame acting onPage touching
 returns-6 c =
-    record {
-      mask = λ t. rw (c .before .before .event5 .given .1) (c .mask-fits .ensures);
-      span = λ t. rw (c .before .before .event5 .given .1);
-      new = rw (c .before .before .event5 .given .1);
-      answer = rw (c .before .before .event5 .given .1);
-    }
+    told (c .before .before .before .event5 .given .1) (c .form-with6 .ensures)
+    (record { mask = λ t. c .before .mask-fits .ensures; span = λ t. refl; new = refl; answer = refl })
 
 returns-7 : tie.Need-returns-7
-returns-7 c = form-of-rest (c .before .args .setup) (c .before .args .event) (c .match .keys7)
+returns-7 c = told refl (c .form-with7 .ensures) (form-of-rest (c .before .before .args .setup) (c .before .before .args .event) (c .before .match .keys7))
 
 pub form-of-spec : {M : Type 1} → statement M
 form-of-spec =
@@ -107,15 +106,22 @@ form-of-spec =
     (tie.spec
     enum-known-event
     span-fits-requires
+    form-with-requires
     enum-known-event-2
     span-fits-requires-2
+    form-with-requires-2
     enum-told
+    form-with-requires-3
     enum-known-event-3
     span-fits-requires-3
+    form-with-requires-4
     enum-known-event-4
     span-fits-requires-4
+    form-with-requires-5
     enum-known-event-5
     mask-fits-requires
+    form-with-requires-6
+    form-with-requires-7
     returns
     returns-2
     returns-3

@@ -1,11 +1,9 @@
-// Conditions of single values, as the rules name them.
+// Tests of single values that soundness alone makes, as the rules name them; the others are the crate conditions'.
 ghost use mathlib.Core.Path.{_≡_};
 ghost use mathlib.Core.Bool.{_&&_};
 ghost use Prim.Native.Nat.{min};
-ghost use Rattle.rules.specs.Records.{isEmpty, isFree, isUnmapped, isPublic, isClearIn, namesNone, namesPage};
+ghost use Rattle.rules.specs.Records.{isUnmapped, isClearIn, namesNone, namesPage};
 use crate::spots::Spot;
-use rules::Activity;
-use rules::Life;
 use rules::Mapping;
 use rules::Named;
 use rules::Place;
@@ -24,28 +22,6 @@ pub fn least(a: usize, b: usize) -> usize
     if a < b { a } else { b }
 }
 
-// Whether a domain is Empty.
-pub fn is_empty(life: Life) -> bool
-    ensures { λ r. ⌜ r ≡ isEmpty life ⌝ }
-{
-    match life {
-        Life::Empty => true,
-        Life::Live => false,
-        Life::Stopped => false,
-    }
-}
-
-// Whether a context is Free.
-pub fn is_free(activity: Activity) -> bool
-    ensures { λ r. ⌜ r ≡ isFree activity ⌝ }
-{
-    match activity {
-        Activity::Free => true,
-        Activity::Running(_) => false,
-        Activity::Kept(_, _) => false,
-    }
-}
-
 // Whether a page has no mapping.
 pub fn is_unmapped(mapping: Mapping) -> bool
     ensures { λ r. ⌜ r ≡ isUnmapped mapping ⌝ }
@@ -53,17 +29,6 @@ pub fn is_unmapped(mapping: Mapping) -> bool
     match mapping {
         Mapping::Unmapped => true,
         Mapping::Mapped(_) => false,
-    }
-}
-
-// Whether a page is Public.
-pub fn is_public(place: Place) -> bool
-    ensures { λ r. ⌜ r ≡ isPublic place ⌝ }
-{
-    match place {
-        Place::Public => true,
-        Place::Clear(_, _) => false,
-        Place::Sealed(_) => false,
     }
 }
 

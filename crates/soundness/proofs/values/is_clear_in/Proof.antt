@@ -1,7 +1,7 @@
 -- `is_clear_in` meets its contract, by the place's cases.
 use borrow.Author.Needs.{needs}
-use Rattle.soundness.proofs.conditions.is_clear_in.Statement.{statement}
-use Rattle.soundness.proofs.conditions.is_clear_in.Tie as tie
+use Rattle.soundness.proofs.values.is_clear_in.Statement.{statement}
+use Rattle.soundness.proofs.values.is_clear_in.Tie as tie
 
 enum-told : tie.Need-enum-told
 enum-told c = search needs

@@ -2,8 +2,8 @@
 use mathlib.Core.Bool.{and-true}
 use borrow.Author.Needs.{needs}
 use Rattle.rules.specs.Bytes.{allOf}
-use Rattle.soundness.proofs.conditions.names_page.Statement.{statement}
-use Rattle.soundness.proofs.conditions.names_page.Tie as tie
+use Rattle.soundness.proofs.values.names_page.Statement.{statement}
+use Rattle.soundness.proofs.values.names_page.Tie as tie
 
 enum-told : tie.Need-enum-told
 enum-told c = search needs
