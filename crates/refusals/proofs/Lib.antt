@@ -1,6 +1,4 @@
 -- The laws that the proofs of the functions cite.
-pub mod Spans
-pub mod Others
 pub mod Orders
 pub mod Needs
 pub mod Readiness

@@ -5,7 +5,6 @@ ghost use Rattle.rules.specs.Events.{row};
 ghost use Rattle.rules.specs.Answers.{firstOf, checks};
 ghost use Rattle.refusals.specs.Ready.{Ready};
 
-mod form;
 mod standing;
 
 use rules::Event;
@@ -17,7 +16,7 @@ pub fn refusal(setup: Setup, tables: Tables, event: Event, new: usize, room: usi
     requires { ⌜ Ready setup tables ⌝ }
     ensures { λ r. ⌜ r ≡ firstOf (checks setup tables event (row setup tables event) new room) ⌝ }
 {
-    let number = form::by_form(setup, event, new, room);
+    let number = shape::by_shape(setup, event, new, room);
     if number != 0 {
         return number;
     }

@@ -1,4 +1,4 @@
-// The checks on the records of the tables, and on the signatures that are left: an event whose form is right. Each event has
+// The checks on the records of the tables, and on the signatures that are left: an event whose shape is right. Each event has
 // its function, which reads the few records that the event concerns; end and map, read and write, and leave and trap, ask
 // the same.
 ghost use mathlib.Core.Path.{_≡_};
@@ -8,7 +8,6 @@ ghost use Rattle.rules.specs.Sealing.{takesNamed};
 ghost use Rattle.rules.specs.Answers.{firstOf};
 ghost use Rattle.refusals.specs.Ready.{Ready};
 ghost use Rattle.refusals.specs.Stages.{recordChecks, sealChecks, standing, ownOf};
-use super::form::both;
 use conditions::domain_where;
 use conditions::frame_where;
 use conditions::is_clear_in;
@@ -34,6 +33,7 @@ use rules::PageRecord;
 use rules::Setup;
 use rules::Span;
 use rules::Tables;
+use shape::both;
 
 // The order of the checks on records.
 fn fit(condition: bool, live: bool, mapped: bool) -> u8

@@ -5,7 +5,7 @@ use mathlib.Core.List.{List}
 use Prim.Native.Nat.{ℕ, _+_, _*_, _≤_, _<_}
 use lib.ListN.{length}
 use lib.Dec.{T}
-use Rattle.rules.specs.Sizes.{maxDomains, maxPages, maxFrames, maxSignatures, pageNumber}
+use Rattle.rules.specs.Sizes.{maxDomains, maxPages, maxFrames}
 use Rattle.rules.specs.Records.{namesOf, placeOf, isClearIn}
 use Rattle.rules.specs.Sealing.{sealedWith, needed}
 use Rattle.rules.specs.declared.Setup.{Setup}
@@ -17,26 +17,14 @@ use Rattle.rules.specs.declared.Wear.{Wear}
 use Rattle.rules.specs.declared.Wear.the-variants.{Clean}
 use Rattle.rules.specs.declared.Place.the-variants.{Clear, Sealed}
 use Rattle.rules.specs.declared.Named.the-variants.{Page}
+use Rattle.moving.specs.Numbers.{Limited}
 use Rattle.sealing.specs.declared.Work.{Work}
-
--- the sizes are within their limits
-pub record Limited (s : Setup) : Type 0 where
-  pub domains : s .domains ≤ maxDomains
-  pub pages : s .pages ≤ maxPages
-  pub frames : s .frames ≤ maxFrames
-  pub signatures : s .signatures ≤ maxSignatures
 
 -- the lent memory has the lengths that they give
 pub record Lent (s : Setup) (frames store supply : List ℕ) : Type 0 where
   pub frames-long : length frames ≡ s .frames * s .size
   pub store-long : length store ≡ s .domains * s .pages * s .size
   pub supply-long : length supply ≡ s .signatures * s .size
-
--- n is the number of the page d, v, and that of a slot and of a record
-pub record Numbered (s : Setup) (d : Asid) (v : Gvpn) (n : ℕ) : Type 0 where
-  pub is : n ≡ pageNumber s d v
-  pub slot : n < s .domains * s .pages
-  pub listed : n < maxDomains * maxPages
 
 -- the page that frame f names is one of the setup's, and there is a signature to seal it with
 pub record Ready (s : Setup) (t : Tables) (f : Gppn) : Type 0 where

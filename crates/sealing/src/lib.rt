@@ -3,17 +3,20 @@
 // the rule of its name says, with no byte and no record changed beside.
 ghost use mathlib.Core.Path.{_≡_};
 ghost use mathlib.Core.List.{List, [], _∷_};
-ghost use mathlib.Core.Bool.{cond};
-ghost use Prim.Native.Nat.{ℕ, _+_, _*_, _<_, _≤_};
-ghost use lib.ListN.{length};
-ghost use Rattle.rules.specs.Bytes.{part, withPart, sameBytes};
+ghost use Prim.Native.Nat.{ℕ, _<_};
 ghost use Rattle.rules.specs.Sizes.{maxDomains};
 ghost use Rattle.rules.specs.Records.{given, placeOf, withLife, onTables};
-ghost use Rattle.rules.specs.Sealing.{sealedWith, takes, seal, sealAll, failed, unveil, sealedFirst, bringIn};
+ghost use Rattle.rules.specs.Sealing.{seal, sealAll, failed, unveil, sealedFirst, bringIn};
 ghost use Rattle.rules.specs.declared.Registers.{Registers};
 ghost use Rattle.rules.specs.declared.Life.the-variants.{Stopped};
 ghost use Rattle.sealing.specs.Under.{during, effect};
-ghost use Rattle.sealing.specs.Asked.{Limited, Numbered, Sealable, Reached, Bringable};
+ghost use Rattle.sealing.specs.Asked.{Sealable, Reached, Bringable};
+use moving::page_number;
+use moving::placed;
+use moving::seal_bytes;
+use moving::sealed_with;
+use moving::unveil_bytes;
+use moving::used_after;
 use rules::Answer;
 use rules::Asid;
 use rules::DomainRecord;
@@ -22,7 +25,6 @@ use rules::Gppn;
 use rules::Gvpn;
 use rules::Life;
 use rules::Named;
-use rules::PageRecord;
 use rules::Place;
 use rules::Setup;
 use rules::Tables;
@@ -39,60 +41,6 @@ pub struct Work {
 pub struct Brought {
     pub work: Work,
     pub number: u8,
-}
-
-// A page's number among all, by which the table has its record and the store its slot.
-pub fn page_number(setup: Setup, d: Asid, v: Gvpn) -> usize
-    requires { ⌜ (Limited setup) × (d .0 < setup .domains) × (v .0 < setup .pages) ⌝ }
-    ensures { λ r. ⌜ Numbered setup d v r ⌝ }
-{
-    (d.0 as usize) * setup.pages + (v.0 as usize)
-}
-
-// The number of the signature that a page is sealed with.
-fn sealed_with(used: u16, wear: Wear) -> u16
-    ensures { λ r. ⌜ r ≡ sealedWith used wear ⌝ }
-{
-    match wear {
-        Wear::Dirty => used,
-        Wear::Clean(k) => k,
-    }
-}
-
-// The count of used signatures after it.
-fn used_after(used: u16, wear: Wear) -> u16
-    requires { ⌜ sealedWith used wear < 65535 ⌝ }
-    ensures { λ r. ⌜ r ≡ used + takes wear ⌝ }
-{
-    match wear {
-        Wear::Dirty => used + 1,
-        Wear::Clean(_) => used,
-    }
-}
-
-// A page's record with another place: its mapping stays.
-fn placed(page: PageRecord, place: Place) -> PageRecord
-    ensures { λ r. ⌜ r ≡ record { mapping = page .mapping; place = place } ⌝ }
-{
-    let mapping = page.mapping;
-    PageRecord { mapping, place }
-}
-
-// Frame f is copied to its page's slot, and filled with signature k.
-fn seal_bytes(
-    size: usize,
-    frames: &mut [u8],
-    store: &mut [u8],
-    supply: &[u8],
-    f: usize,
-    slot: usize,
-    k: usize,
-)
-    requires { ⌜ (f * size + size ≤ length (now frames)) × (slot * size + size ≤ length (now store)) × (k * size + size ≤ length (now supply)) ⌝ }
-    ensures { λ _. ⌜ (now (frames .exit) ≡ withPart size f (part size k (now (supply .entry))) (now (frames .entry))) × (now (store .exit) ≡ withPart size slot (part size f (now (frames .entry))) (now (store .entry))) ⌝ }
-{
-    pages::copy_page(store, size, slot, pages::page(frames, size, f));
-    pages::copy_page(frames, size, f, pages::page(supply, size, k));
 }
 
 // What is Clear in frame f is sealed: nothing where the frame names no page.
@@ -132,29 +80,6 @@ pub fn seal(
         tables,
         seals: work.seals + 1,
         unveils: work.unveils,
-    }
-}
-
-// Where frame f holds signature k, the slot is copied over it: whether it did.
-fn unveil_bytes(
-    size: usize,
-    frames: &mut [u8],
-    store: &[u8],
-    supply: &[u8],
-    f: usize,
-    slot: usize,
-    k: usize,
-) -> bool
-    requires { ⌜ (f * size + size ≤ length (now frames)) × (slot * size + size ≤ length (now store)) × (k * size + size ≤ length (now supply)) ⌝ }
-    ensures { λ r. ⌜ (r ≡ sameBytes (part size f (now (frames .entry))) (part size k (now (supply .entry)))) × (now (frames .exit) ≡ cond r (withPart size f (part size slot (now (store .entry))) (now (frames .entry))) (now (frames .entry))) ⌝ }
-{
-    let start = k * size;
-    let end = start + size;
-    if pages::same_page(frames, size, f, &supply[start..end]) {
-        pages::copy_page(frames, size, f, pages::page(store, size, slot));
-        true
-    } else {
-        false
     }
 }
 

@@ -14,7 +14,7 @@ use Rattle.rules.specs.Records.{Given, Machine, stateOf}
 use Rattle.rules.specs.Sound.{domainSound, contextSound, savedSound, pageSound, frameSound, whole, sound, lookable, acceptable}
 use Rattle.rules.specs.Answers.{startRefusal}
 use Rattle.rules.proofs.Facts.{sized, each, passes, passed}
-use Rattle.soundness.specs.Walk.{Long}
+use Rattle.entries.specs.Walk.{Long}
 use Rattle.rules.specs.declared.Setup.{Setup}
 use Rattle.rules.specs.declared.State.{State}
 

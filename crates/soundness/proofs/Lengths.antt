@@ -10,7 +10,7 @@ use denote.Struct.Declared.{row}
 use Rattle.rules.proofs.Tables as tables
 use Rattle.rules.proofs.State as state
 use Rattle.rules.specs.Sizes.{maxContexts}
-use Rattle.soundness.specs.Walk.{Long}
+use Rattle.entries.specs.Walk.{Long}
 use Rattle.rules.specs.declared.State.{State}
 use Rattle.rules.specs.declared.Tables.{Tables}
 

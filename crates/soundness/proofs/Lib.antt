@@ -1,7 +1,4 @@
--- The laws by which the loops and the tests of single records are the rules' tests.
-pub mod Walks
-pub mod Reading
-pub mod Stands
+-- The laws by which the loops over the tables are the rules' tests, and what the promises allow.
 pub mod Lengths
 pub mod Handed
 pub mod OneAnswer

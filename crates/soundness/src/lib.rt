@@ -9,14 +9,11 @@ ghost use Rattle.rules.specs.Records.{given, machine};
 ghost use Rattle.rules.specs.Sound as rule;
 ghost use Rattle.rules.specs.Answers.{startRefusal};
 
-mod entries;
-mod spots;
 mod tables;
-mod values;
 
+use entries::values::both;
 use rules::Setup;
 use rules::State;
-use values::both;
 
 // Whether a state is sound.
 pub fn sound(setup: Setup, state: State) -> bool

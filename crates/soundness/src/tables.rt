@@ -3,9 +3,8 @@
 ghost use mathlib.Core.Path.{_≡_};
 ghost use Rattle.rules.specs.Bytes.{allFrom};
 ghost use Rattle.rules.specs.Sound.{domainSound, contextSound, savedSound, pageSound, frameSound};
-use crate::entries;
-use crate::entries::ENTRIES;
-use crate::spots;
+use entries::ENTRIES;
+use entries::spots;
 use rules::DomainRecord;
 use rules::Registers;
 use rules::Setup;

@@ -1,4 +1,4 @@
--- `refusals::refusal` meets its contract: a form that is refused is the answer, and one that passed leaves it to the event's
+-- `refusals::refusal` meets its contract: a shape that is refused is the answer, and one that passed leaves it to the event's
 -- own function, whose numbers are then in range.
 use mathlib.Core.Path.{_≡_, sym, _∙_}
 use mathlib.Core.Bool.{true}
@@ -8,30 +8,31 @@ use borrow.Author.Needs.{needs}
 use Rattle.rules.specs.Sizes.{domainIn, pageIn, frameIn, contextIn}
 use Rattle.rules.specs.Events.{row, onRecords, acting, touching, numbersIn}
 use Rattle.rules.specs.Answers.{firstOf, checks}
-use Rattle.refusals.specs.Stages.{byForm, byRow, standing}
-use Rattle.refusals.proofs.Orders.{form-refused, form-passed, numbers-told, two-below, first-below}
+use Rattle.refusals.specs.Stages.{byRow, standing}
+use Rattle.shape.specs.Stages.{byShape}
+use Rattle.refusals.proofs.Orders.{shape-refused, shape-passed, numbers-told, two-below, first-below}
 use Rattle.refusals.proofs.refusal.Statement.{statement}
 use Rattle.refusals.proofs.refusal.Tie as tie
 
 -- what the first stage tells, once it passed
 numbers : (c : tie.Else1) → let a = c .before .before .args in numbersIn (a .setup) (a .event) ≡ true
-unfolding byForm
-numbers c = numbers-told _ _ _ _ (sym (c .before .by-form .ensures (c .before .before .args .tables)) ∙ c .if1 .left)
+unfolding byShape
+numbers c = numbers-told _ _ _ _ (sym (c .before .by-shape .ensures (c .before .before .args .tables)) ∙ c .if1 .left)
 
 granted : (c : tie.Else1) (m : ℕ) → let a = c .before .before .args in m ≡ standing (a .setup) (a .tables) (a .event)
     → m ≡ firstOf (checks (a .setup) (a .tables) (a .event) (row (a .setup) (a .tables) (a .event)) (a .new) (a .room))
 granted c m last =
     let a = c .before .before .args in
-    form-passed (a .setup) (a .tables) (a .event) (a .new) (a .room) _ (c .before .by-form .ensures (a .tables))
+    shape-passed (a .setup) (a .tables) (a .event) (a .new) (a .room) _ (c .before .by-shape .ensures (a .tables))
     (c .if1 .left) m last
 
-by-form-requires : tie.Need-by-form-requires
-by-form-requires c κs = search needs
+by-shape-requires : tie.Need-by-shape-requires
+by-shape-requires c κs = search needs
 
 returns : tie.Need-returns
 returns c =
     let a = c .before .before .args in
-    form-refused (a .setup) (a .tables) (a .event) (a .new) (a .room) _ (c .before .by-form .ensures (a .tables))
+    shape-refused (a .setup) (a .tables) (a .event) (a .new) (a .room) _ (c .before .by-shape .ensures (a .tables))
     (c .if1 .taken)
 
 enum-known-event : tie.Need-enum-known-event
@@ -223,7 +224,7 @@ pub refusal-spec : {M : Type 1} → statement M
 refusal-spec =
     tie.close
     (tie.spec
-    by-form-requires
+    by-shape-requires
     returns
     enum-known-event
     begin-requires

@@ -5,9 +5,9 @@ use native.Mathlib.Omega.{arith}
 use borrow.Author.Needs.{needs}
 use Rattle.rules.specs.Records.{freeContext}
 use Rattle.rules.specs.Sound.{contextSound}
-use Rattle.soundness.specs.Walk.{ownerOf}
+use Rattle.entries.specs.Walk.{ownerOf}
 use Rattle.soundness.proofs.Lengths.{long-tables}
-use Rattle.soundness.proofs.Walks.{Walked, walked-none, walked-more, walked-fails, walked-all}
+use Rattle.entries.proofs.Walks.{Walked, walked-none, walked-more, walked-fails, walked-all}
 use Rattle.soundness.proofs.tables.contexts_sound.Statement.{statement}
 use Rattle.soundness.proofs.tables.contexts_sound.Tie as tie
 

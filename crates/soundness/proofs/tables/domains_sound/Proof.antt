@@ -7,7 +7,7 @@ use borrow.Author.Needs.{needs}
 use Rattle.rules.specs.Sizes.{maxDomains}
 use Rattle.rules.specs.Records.{emptyDomain}
 use Rattle.rules.specs.Sound.{domainSound}
-use Rattle.soundness.proofs.Walks.{Walked, walked-none, walked-more, walked-fails, walked-all}
+use Rattle.entries.proofs.Walks.{Walked, walked-none, walked-more, walked-fails, walked-all}
 use Rattle.soundness.proofs.tables.domains_sound.Statement.{statement}
 use Rattle.soundness.proofs.tables.domains_sound.Tie as tie
 

@@ -6,10 +6,10 @@ use native.Mathlib.Omega.{arith}
 use borrow.Author.Needs.{needs}
 use Rattle.rules.specs.Records.{publicPage}
 use Rattle.rules.specs.Sound.{pageSound}
-use Rattle.soundness.specs.Walk.{Stands, holderAt}
-use Rattle.soundness.proofs.Stands.{stands-first, stands-next}
+use Rattle.entries.specs.Walk.{Stands, holderAt}
+use Rattle.entries.proofs.Stands.{stands-first, stands-next}
 use Rattle.soundness.proofs.Lengths.{long-tables}
-use Rattle.soundness.proofs.Walks.{Walked, walked-none, walked-more, walked-fails, walked-all}
+use Rattle.entries.proofs.Walks.{Walked, walked-none, walked-more, walked-fails, walked-all}
 use Rattle.soundness.proofs.tables.pages_sound.Statement.{statement}
 use Rattle.soundness.proofs.tables.pages_sound.Tie as tie
 

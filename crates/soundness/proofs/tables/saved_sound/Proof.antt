@@ -7,7 +7,7 @@ use lib.ListN.{length}
 use borrow.Author.Needs.{needs}
 use Rattle.rules.specs.Sizes.{maxContexts}
 use Rattle.rules.specs.Sound.{savedSound}
-use Rattle.soundness.proofs.Walks.{Walked, walked-none, walked-more, walked-fails, walked-all}
+use Rattle.entries.proofs.Walks.{Walked, walked-none, walked-more, walked-fails, walked-all}
 use Rattle.soundness.proofs.tables.saved_sound.Statement.{statement}
 use Rattle.soundness.proofs.tables.saved_sound.Tie as tie
 

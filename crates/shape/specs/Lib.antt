@@ -1,0 +1,2 @@
+-- What the contracts of shape cite beside the rules.
+pub mod Stages
