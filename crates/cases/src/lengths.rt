@@ -1,7 +1,6 @@
 // Data of a wrong length for each kind, spans that do not fit a page, and answer buffers that are too short.
 use crate::world;
 use crate::world::ROOM;
-use crate::world::World;
 use rules::Asid;
 use rules::Ctc;
 use rules::Event;
@@ -13,139 +12,109 @@ use rules::TrapKind;
 // The largest usize.
 const HUGE: usize = 18446744073709551615;
 
-pub fn all(base: World) {
-    no_data(base);
-    no_data_in_application(base);
-    kernel_write_data(base);
-    write_data(base);
-    resume_data(base);
-    trap_data(base);
-    spans(base);
-    room(base);
-    room_in_application(base);
-    room_for_registers(base);
+pub fn all() {
+    no_data();
+    no_data_in_application();
+    kernel_write_data();
+    write_data();
+    resume_data();
+    trap_data();
+    spans();
+    room();
+    room_in_application();
+    room_for_registers();
 }
 
 // One byte where there is to be none.
-fn no_data(base: World) {
+fn no_data() {
     let span = world::whole();
-    world::step(
-        b"begin data 1",
-        base,
-        Event::Begin(Asid(0), Ctc(0)),
-        b"!",
-        ROOM,
-    );
-    world::step(b"end data 1", base, Event::End(Asid(0)), b"!", ROOM);
+    world::step(b"begin data 1", Event::Begin(Asid(0), Ctc(0)), b"!", ROOM);
+    world::step(b"end data 1", Event::End(Asid(0)), b"!", ROOM);
     world::step(
         b"map data 1",
-        base,
         Event::Map(Asid(0), Gvpn(1), Gppn(0)),
         b"!",
         ROOM,
     );
-    world::step(
-        b"unmap data 1",
-        base,
-        Event::Unmap(Asid(0), Gvpn(1)),
-        b"!",
-        ROOM,
-    );
+    world::step(b"unmap data 1", Event::Unmap(Asid(0), Gvpn(1)), b"!", ROOM);
     world::step(
         b"kernel read data 1",
-        base,
         Event::KernelRead(Gppn(1), span),
         b"!",
         ROOM,
     );
 }
 
-fn no_data_in_application(base: World) {
+fn no_data_in_application() {
     let span = world::whole();
-    world::step(
-        b"spawn data 1",
-        base,
-        Event::Spawn(Ctc(0), Ctc(0)),
-        b"!",
-        ROOM,
-    );
-    world::step(b"leave data 1", base, Event::Leave(Ctc(0)), b"!", ROOM);
-    world::step(
-        b"cloak data 1",
-        base,
-        Event::Cloak(Ctc(0), Gvpn(1)),
-        b"!",
-        ROOM,
-    );
+    world::step(b"spawn data 1", Event::Spawn(Ctc(0), Ctc(0)), b"!", ROOM);
+    world::step(b"leave data 1", Event::Leave(Ctc(0)), b"!", ROOM);
+    world::step(b"cloak data 1", Event::Cloak(Ctc(0), Gvpn(1)), b"!", ROOM);
     world::step(
         b"uncloak data 1",
-        base,
         Event::Uncloak(Ctc(0), Gvpn(1)),
         b"!",
         ROOM,
     );
     world::step(
         b"read data 1",
-        base,
         Event::Read(Ctc(0), Gvpn(1), span),
         b"!",
         ROOM,
     );
 }
 
-fn kernel_write_data(base: World) {
+fn kernel_write_data() {
     let event = Event::KernelWrite(Gppn(1), Span { off: 0, len: 2 });
-    world::step(b"kernel write 2 data 0", base, event, b"", ROOM);
-    world::step(b"kernel write 2 data 1", base, event, b"!", ROOM);
-    world::step(b"kernel write 2 data 2", base, event, b"!!", ROOM);
-    world::step(b"kernel write 2 data 3", base, event, b"!!!", ROOM);
+    world::step(b"kernel write 2 data 0", event, b"", ROOM);
+    world::step(b"kernel write 2 data 1", event, b"!", ROOM);
+    world::step(b"kernel write 2 data 2", event, b"!!", ROOM);
+    world::step(b"kernel write 2 data 3", event, b"!!!", ROOM);
 }
 
-fn write_data(base: World) {
+fn write_data() {
     let event = Event::Write(Ctc(0), Gvpn(1), Span { off: 0, len: 2 });
-    world::step(b"write 2 data 0", base, event, b"", ROOM);
-    world::step(b"write 2 data 1", base, event, b"!", ROOM);
-    world::step(b"write 2 data 2", base, event, b"!!", ROOM);
-    world::step(b"write 2 data 3", base, event, b"!!!", ROOM);
+    world::step(b"write 2 data 0", event, b"", ROOM);
+    world::step(b"write 2 data 1", event, b"!", ROOM);
+    world::step(b"write 2 data 2", event, b"!!", ROOM);
+    world::step(b"write 2 data 3", event, b"!!!", ROOM);
 }
 
 // Of the right length, the event is refused because context 0 is not Kept.
-fn resume_data(base: World) {
+fn resume_data() {
     let event = Event::Resume(Asid(0), Ctc(0));
-    world::step(b"resume data 0", base, event, b"", ROOM);
-    world::step(b"resume data 7", base, event, b"0123456", ROOM);
-    world::step(b"resume data 8", base, event, b"01234567", ROOM);
-    world::step(b"resume data 9", base, event, b"012345678", ROOM);
+    world::step(b"resume data 0", event, b"", ROOM);
+    world::step(b"resume data 7", event, b"0123456", ROOM);
+    world::step(b"resume data 8", event, b"01234567", ROOM);
+    world::step(b"resume data 9", event, b"012345678", ROOM);
 }
 
-fn trap_data(base: World) {
+fn trap_data() {
     let event = Event::Trap(Ctc(0), TrapKind::Call, 255);
     let short = [b'r'; 63];
     let right = [b'r'; 64];
     let long = [b'r'; 65];
-    world::step(b"trap data 0", base, event, b"", ROOM);
-    world::step(b"trap data 63", base, event, &short, ROOM);
-    world::step(b"trap data 64", base, event, &right, ROOM);
-    world::step(b"trap data 65", base, event, &long, ROOM);
+    world::step(b"trap data 0", event, b"", ROOM);
+    world::step(b"trap data 63", event, &short, ROOM);
+    world::step(b"trap data 64", event, &right, ROOM);
+    world::step(b"trap data 65", event, &long, ROOM);
 }
 
-fn spans(base: World) {
-    span(b"off 0 len 0", base, Span { off: 0, len: 0 }, b"");
-    span(b"off 16 len 0", base, Span { off: 16, len: 0 }, b"");
-    span(b"off 15 len 1", base, Span { off: 15, len: 1 }, b"!");
-    span(b"off 15 len 2", base, Span { off: 15, len: 2 }, b"!!");
-    span(b"off 16 len 1", base, Span { off: 16, len: 1 }, b"!");
+fn spans() {
+    span(b"off 0 len 0", Span { off: 0, len: 0 }, b"");
+    span(b"off 16 len 0", Span { off: 16, len: 0 }, b"");
+    span(b"off 15 len 1", Span { off: 15, len: 1 }, b"!");
+    span(b"off 15 len 2", Span { off: 15, len: 2 }, b"!!");
+    span(b"off 16 len 1", Span { off: 16, len: 1 }, b"!");
     span(
         b"off 0 len 17",
-        base,
         Span { off: 0, len: 17 },
         b"seventeen bytes..",
     );
-    span(b"off huge len 1", base, Span { off: HUGE, len: 1 }, b"!");
-    span(b"off 1 len huge", base, Span { off: 1, len: HUGE }, b"!");
+    span(b"off huge len 1", Span { off: HUGE, len: 1 }, b"!");
+    span(b"off 1 len huge", Span { off: 1, len: HUGE }, b"!");
     span(
         b"off huge len huge",
-        base,
         Span {
             off: HUGE,
             len: HUGE,
@@ -155,11 +124,10 @@ fn spans(base: World) {
 }
 
 // One span in each of the four events that have one; the data is for those that write.
-fn span(name: &[u8], base: World, s: Span, data: &[u8]) {
+fn span(name: &[u8], s: Span, data: &[u8]) {
     world::step_as(
         b"step kernel read ",
         name,
-        base,
         Event::KernelRead(Gppn(1), s),
         b"",
         ROOM,
@@ -167,7 +135,6 @@ fn span(name: &[u8], base: World, s: Span, data: &[u8]) {
     world::step_as(
         b"step kernel write ",
         name,
-        base,
         Event::KernelWrite(Gppn(1), s),
         data,
         ROOM,
@@ -175,7 +142,6 @@ fn span(name: &[u8], base: World, s: Span, data: &[u8]) {
     world::step_as(
         b"step read ",
         name,
-        base,
         Event::Read(Ctc(0), Gvpn(1), s),
         b"",
         ROOM,
@@ -183,86 +149,67 @@ fn span(name: &[u8], base: World, s: Span, data: &[u8]) {
     world::step_as(
         b"step write ",
         name,
-        base,
         Event::Write(Ctc(0), Gvpn(1), s),
         data,
         ROOM,
     );
 }
 
-fn room(base: World) {
+fn room() {
     let s = Span { off: 2, len: 4 };
     world::step(
         b"kernel read 4 room 0",
-        base,
         Event::KernelRead(Gppn(1), s),
         b"",
         0,
     );
     world::step(
         b"kernel read 4 room 3",
-        base,
         Event::KernelRead(Gppn(1), s),
         b"",
         3,
     );
     world::step(
         b"kernel read 4 room 4",
-        base,
         Event::KernelRead(Gppn(1), s),
         b"",
         4,
     );
 }
 
-fn room_in_application(base: World) {
+fn room_in_application() {
     let s = Span { off: 2, len: 4 };
-    world::step(
-        b"read 4 room 0",
-        base,
-        Event::Read(Ctc(0), Gvpn(1), s),
-        b"",
-        0,
-    );
-    world::step(
-        b"read 4 room 3",
-        base,
-        Event::Read(Ctc(0), Gvpn(1), s),
-        b"",
-        3,
-    );
-    world::step(
-        b"read 4 room 4",
-        base,
-        Event::Read(Ctc(0), Gvpn(1), s),
-        b"",
-        4,
-    );
+    world::step(b"read 4 room 0", Event::Read(Ctc(0), Gvpn(1), s), b"", 0);
+    world::step(b"read 4 room 3", Event::Read(Ctc(0), Gvpn(1), s), b"", 3);
+    world::step(b"read 4 room 4", Event::Read(Ctc(0), Gvpn(1), s), b"", 4);
 }
 
 // Resume is tried on a context that is Kept; each of these gives eight registers.
-fn room_for_registers(base: World) {
+fn room_for_registers() {
     let words = [b'r'; 64];
     let value = b"01234567";
     let trap = Event::Trap(Ctc(0), TrapKind::Call, 255);
-    world::step(b"trap room 63", base, trap, &words, 63);
-    world::step(b"trap room 64", base, trap, &words, 64);
-    let stopped = world::after(base, trap, &words);
-    world::step(
+    world::step(b"trap room 63", trap, &words, 63);
+    world::step(b"trap room 64", trap, &words, 64);
+    let stopped = world::after(world::base(), trap, &words);
+    world::step_on(
+        b"step ",
         b"resume room 0",
         stopped,
         Event::Resume(Asid(0), Ctc(0)),
         value,
         0,
     );
-    world::step(
+    world::step_on(
+        b"step ",
         b"resume room 63",
         stopped,
         Event::Resume(Asid(0), Ctc(0)),
         value,
         63,
     );
-    world::step(
+    world::step_on(
+        b"step ",
         b"resume room 64",
         stopped,
         Event::Resume(Asid(0), Ctc(0)),

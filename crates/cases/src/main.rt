@@ -11,10 +11,9 @@ mod unsound;
 mod world;
 
 fn main() {
-    let base = world::base();
     lent::all();
-    numbers::all(base);
-    lengths::all(base);
-    unsound::all(base);
-    looks::all(base);
+    numbers::all();
+    lengths::all();
+    unsound::all();
+    looks::all(world::base());
 }

@@ -25,25 +25,26 @@ use rules::Tables;
 use rules::TrapKind;
 use rules::Wear;
 
-pub fn all(base: World) {
+pub fn all() {
     let fresh = world::fresh();
-    tried(b"sound", base);
-    used(base);
-    domains(base);
-    contexts(base, fresh);
-    saved(base);
-    mappings(base);
-    past_pages(base);
-    clear(base);
-    signatures(base);
-    frames(base);
-    past_frames(base);
+    tried(b"sound", world::base());
+    used();
+    domains();
+    contexts(fresh);
+    saved();
+    mappings();
+    past_pages();
+    clear();
+    signatures();
+    frames();
+    past_frames();
     empty(fresh);
 }
 
 // A kernel's write to frame 0, which names no page, and a look at page 1.
 fn tried(name: &[u8], world: World) {
-    world::step(
+    world::step_on(
+        b"step ",
         name,
         world,
         Event::KernelWrite(Gppn(0), Span { off: 0, len: 1 }),
@@ -141,27 +142,56 @@ fn with_saved(world: World, i: usize) -> World
     }
 }
 
-fn used(base: World) {
-    tried(b"used 2", with_used(base, 2));
-    tried(b"used 3", with_used(base, 3));
-    tried(b"used 65535", with_used(base, 65535));
+// One record of the base made another.
+fn try_used(name: &[u8], used: u16) {
+    tried(name, with_used(world::base(), used));
 }
 
-fn domains(base: World) {
-    tried(b"domain 1 Live", with_domain(base, 1, Life::Live));
-    tried(b"domain 7 Stopped", with_domain(base, 7, Life::Stopped));
+fn try_domain(name: &[u8], i: usize, life: Life)
+    requires { ⌜ i < 8 ⌝ }
+{
+    tried(name, with_domain(world::base(), i, life));
 }
 
-fn contexts(base: World, fresh: World) {
+fn try_context(name: &[u8], i: usize, activity: Activity)
+    requires { ⌜ i < 16 ⌝ }
+{
+    tried(name, with_context(world::base(), i, activity));
+}
+
+fn try_page(name: &[u8], i: usize, mapping: Mapping, place: Place)
+    requires { ⌜ i < 256 ⌝ }
+{
+    tried(name, with_page(world::base(), i, mapping, place));
+}
+
+fn try_frame(name: &[u8], i: usize, names: Named)
+    requires { ⌜ i < 64 ⌝ }
+{
+    tried(name, with_frame(world::base(), i, names));
+}
+
+fn try_saved(name: &[u8], i: usize)
+    requires { ⌜ i < 16 ⌝ }
+{
+    tried(name, with_saved(world::base(), i));
+}
+
+fn used() {
+    try_used(b"used 2", 2);
+    try_used(b"used 3", 3);
+    try_used(b"used 65535", 65535);
+}
+
+fn domains() {
+    try_domain(b"domain 1 Live", 1, Life::Live);
+    try_domain(b"domain 7 Stopped", 7, Life::Stopped);
+}
+
+fn contexts(fresh: World) {
     let interrupt = TrapKind::Interrupt;
-    tried(
-        b"context 1 Running",
-        with_context(base, 1, Activity::Running(Asid(0))),
-    );
-    tried(
-        b"context 15 Kept",
-        with_context(base, 15, Activity::Kept(Asid(0), interrupt)),
-    );
+    try_context(b"context 1 Running", 1, Activity::Running(Asid(0)));
+    try_context(b"context 15 Kept", 15, Activity::Kept(Asid(0), interrupt));
     tried(
         b"Running in Empty",
         with_context(fresh, 0, Activity::Running(Asid(0))),
@@ -170,130 +200,101 @@ fn contexts(base: World, fresh: World) {
         b"Kept in Empty",
         with_context(fresh, 0, Activity::Kept(Asid(0), interrupt)),
     );
-    tried(
-        b"Running in 1",
-        with_context(base, 0, Activity::Running(Asid(1))),
-    );
-    tried(
-        b"Kept in 8",
-        with_context(base, 0, Activity::Kept(Asid(8), interrupt)),
-    );
-    tried(
-        b"Running in 255",
-        with_context(base, 0, Activity::Running(Asid(255))),
-    );
+    try_context(b"Running in 1", 0, Activity::Running(Asid(1)));
+    try_context(b"Kept in 8", 0, Activity::Kept(Asid(8), interrupt));
+    try_context(b"Running in 255", 0, Activity::Running(Asid(255)));
 }
 
-fn saved(base: World) {
-    tried(b"saved 0", with_saved(base, 0));
-    tried(b"saved 1", with_saved(base, 1));
-    tried(b"saved 15", with_saved(base, 15));
+fn saved() {
+    try_saved(b"saved 0", 0);
+    try_saved(b"saved 1", 1);
+    try_saved(b"saved 15", 15);
 }
 
-fn mappings(base: World) {
+fn mappings() {
     let sealed = Place::Sealed(0);
-    tried(
-        b"mapped to 1",
-        with_page(base, 0, Mapping::Mapped(Gppn(1)), sealed),
-    );
-    tried(
-        b"mapped to 2",
-        with_page(base, 0, Mapping::Mapped(Gppn(2)), sealed),
-    );
-    tried(
-        b"mapped to 255",
-        with_page(base, 0, Mapping::Mapped(Gppn(255)), sealed),
-    );
+    try_page(b"mapped to 1", 0, Mapping::Mapped(Gppn(1)), sealed);
+    try_page(b"mapped to 2", 0, Mapping::Mapped(Gppn(2)), sealed);
+    try_page(b"mapped to 255", 0, Mapping::Mapped(Gppn(255)), sealed);
 }
 
-fn past_pages(base: World) {
-    tried(
-        b"page 2 mapped",
-        with_page(base, 2, Mapping::Mapped(Gppn(0)), Place::Public),
-    );
-    tried(
-        b"page 2 Sealed",
-        with_page(base, 2, Mapping::Unmapped, Place::Sealed(0)),
-    );
-    tried(
+fn past_pages() {
+    try_page(b"page 2 mapped", 2, Mapping::Mapped(Gppn(0)), Place::Public);
+    try_page(b"page 2 Sealed", 2, Mapping::Unmapped, Place::Sealed(0));
+    try_page(
         b"page 255 mapped",
-        with_page(base, 255, Mapping::Mapped(Gppn(0)), Place::Public),
+        255,
+        Mapping::Mapped(Gppn(0)),
+        Place::Public,
     );
-    tried(
-        b"page 255 Sealed",
-        with_page(base, 255, Mapping::Unmapped, Place::Sealed(0)),
-    );
+    try_page(b"page 255 Sealed", 255, Mapping::Unmapped, Place::Sealed(0));
 }
 
-fn clear(base: World) {
+fn clear() {
     let mapping = Mapping::Unmapped;
-    tried(
+    try_page(
         b"Clear in 0, which names none",
-        with_page(base, 0, mapping, Place::Clear(Gppn(0), Wear::Dirty)),
+        0,
+        mapping,
+        Place::Clear(Gppn(0), Wear::Dirty),
     );
-    tried(
+    try_page(
         b"Clear in 1, which names another",
-        with_page(base, 0, mapping, Place::Clear(Gppn(1), Wear::Dirty)),
+        0,
+        mapping,
+        Place::Clear(Gppn(1), Wear::Dirty),
     );
-    tried(
+    try_page(
         b"Clear in 2",
-        with_page(base, 0, mapping, Place::Clear(Gppn(2), Wear::Dirty)),
+        0,
+        mapping,
+        Place::Clear(Gppn(2), Wear::Dirty),
     );
-    tried(
+    try_page(
         b"Clear in 255",
-        with_page(base, 0, mapping, Place::Clear(Gppn(255), Wear::Dirty)),
+        0,
+        mapping,
+        Place::Clear(Gppn(255), Wear::Dirty),
     );
 }
 
-fn signatures(base: World) {
+fn signatures() {
     let mapping = Mapping::Unmapped;
-    tried(
-        b"Sealed 1 of 1",
-        with_page(base, 0, mapping, Place::Sealed(1)),
-    );
-    tried(
-        b"Sealed 65535 of 1",
-        with_page(base, 0, mapping, Place::Sealed(65535)),
-    );
-    tried(
+    try_page(b"Sealed 1 of 1", 0, mapping, Place::Sealed(1));
+    try_page(b"Sealed 65535 of 1", 0, mapping, Place::Sealed(65535));
+    try_page(
         b"Clean 0 of 1",
-        with_page(base, 1, mapping, Place::Clear(Gppn(1), Wear::Clean(0))),
+        1,
+        mapping,
+        Place::Clear(Gppn(1), Wear::Clean(0)),
     );
-    tried(
+    try_page(
         b"Clean 1 of 1",
-        with_page(base, 1, mapping, Place::Clear(Gppn(1), Wear::Clean(1))),
+        1,
+        mapping,
+        Place::Clear(Gppn(1), Wear::Clean(1)),
     );
 }
 
-fn frames(base: World) {
-    tried(
+fn frames() {
+    try_frame(
         b"frame 0 names a Sealed page",
-        with_frame(base, 0, Named::Page(Asid(0), Gvpn(0))),
+        0,
+        Named::Page(Asid(0), Gvpn(0)),
     );
-    tried(
+    try_frame(
         b"frame 0 names a page Clear in 1",
-        with_frame(base, 0, Named::Page(Asid(0), Gvpn(1))),
+        0,
+        Named::Page(Asid(0), Gvpn(1)),
     );
-    tried(b"frame 1 names none", with_frame(base, 1, Named::Nothing));
-    tried(
-        b"frame 0 names domain 1",
-        with_frame(base, 0, Named::Page(Asid(1), Gvpn(0))),
-    );
-    tried(
-        b"frame 0 names page 2",
-        with_frame(base, 0, Named::Page(Asid(0), Gvpn(2))),
-    );
+    try_frame(b"frame 1 names none", 1, Named::Nothing);
+    try_frame(b"frame 0 names domain 1", 0, Named::Page(Asid(1), Gvpn(0)));
+    try_frame(b"frame 0 names page 2", 0, Named::Page(Asid(0), Gvpn(2)));
 }
 
-fn past_frames(base: World) {
-    tried(
-        b"frame 2 names a page",
-        with_frame(base, 2, Named::Page(Asid(0), Gvpn(1))),
-    );
-    tried(
-        b"frame 63 names a page",
-        with_frame(base, 63, Named::Page(Asid(0), Gvpn(1))),
-    );
+fn past_frames() {
+    try_frame(b"frame 2 names a page", 2, Named::Page(Asid(0), Gvpn(1)));
+    try_frame(b"frame 63 names a page", 63, Named::Page(Asid(0), Gvpn(1)));
 }
 
 fn empty(fresh: World) {

@@ -101,13 +101,18 @@ pub fn front<'a>(bytes: &'a mut [u8], n: usize) -> &'a mut [u8] {
     bytes
 }
 
-// One event, with room for that many bytes of answer: the answer, then whether frames, store, answer buffer and state are as before.
-pub fn step(name: &[u8], world: World, event: Event, data: &[u8], room: usize) {
-    step_as(b"step ", name, world, event, data, room);
+// One event on the base, with room for that many bytes of answer.
+pub fn step(name: &[u8], event: Event, data: &[u8], room: usize) {
+    step_as(b"step ", name, event, data, room);
 }
 
 // The same, its line begun with other words.
-pub fn step_as(words: &[u8], name: &[u8], world: World, event: Event, data: &[u8], room: usize) {
+pub fn step_as(words: &[u8], name: &[u8], event: Event, data: &[u8], room: usize) {
+    step_on(words, name, base(), event, data, room);
+}
+
+// One event on a world: the answer, then whether frames, store, answer buffer and state are as before.
+pub fn step_on(words: &[u8], name: &[u8], world: World, event: Event, data: &[u8], room: usize) {
     let state = world.state;
     let mut frames = world.frames;
     let mut store = world.store;
