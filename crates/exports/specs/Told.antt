@@ -1,0 +1,23 @@
+-- What stands at a place of a trace, in nine numbers, for those who have no enum: the answer; the event's kind, its three
+-- numbers, off and len; where its data starts in the unread bytes and how long it is. No record's data starts at 0: that
+-- tells the end from a record. Assumes nothing.
+use mathlib.Core.List.{List, [], _∷_}
+use Prim.Native.Nat.{ℕ}
+use Rattle.rules.specs.Events.{kindOf}
+use Rattle.rules.specs.declared.Event.{Event}
+use Rattle.form.specs.Form.{fieldsOf}
+use Rattle.form.specs.declared.Fields.{Fields}
+use Rattle.reading.specs.declared.Found.{Found}
+use Rattle.reading.specs.declared.Found.the-variants.{End, Refused, Record}
+
+abbrev pub row : ℕ → Fields → ℕ → ℕ → List ℕ
+row kind v start len =
+    0 ∷ kind ∷ v .first ∷ v .second ∷ v .third ∷ v .span .off ∷ v .span .len ∷ start ∷ len ∷ []
+
+abbrev pub toldOf : Event → ℕ → ℕ → List ℕ
+toldOf e start len = row (kindOf e) (fieldsOf e) start len
+
+abbrev pub told : Found → List ℕ
+told End = 0 ∷ 0 ∷ 0 ∷ 0 ∷ 0 ∷ 0 ∷ 0 ∷ 0 ∷ 0 ∷ []
+told (Refused n) = n ∷ 0 ∷ 0 ∷ 0 ∷ 0 ∷ 0 ∷ 0 ∷ 0 ∷ 0 ∷ []
+told (Record e start len next) = toldOf e start len
