@@ -4,6 +4,7 @@ use mathlib.Core.List.{List}
 use Prim.Native.Nat.{ℕ}
 use denote.Ref.{now}
 use Rattle.packing.proofs.Promise.{OneAnswer, OneSight}
+use Rattle.exports.specs.Told.{Handed, handed}
 use Rattle.exports.proofs.leaf_copy as leaf-copy
 use Rattle.exports.proofs.leaf_zero as leaf-zero
 use Rattle.exports.proofs.leaf_same as leaf-same
@@ -18,9 +19,6 @@ leaf-zero-one κs a x y e f p q = p ∙ sym q
 pub leaf-same-one : OneAnswer 2 leaf-same.Kinds.ps leaf-same.Kinds.r leaf-same.Reads.Learnt
 leaf-same-one κs a x y e f p q = p ∙ sym q
 
-pub next-record-one : OneAnswer 2 next-record.Kinds.ps next-record.Kinds.r next-record.Reads.Learnt
-next-record-one κs a x y e f p q = p .0 ∙ sym (q .0)
-
-pub next-record-told-one : OneSight 2 next-record.Kinds.ps next-record.Kinds.r next-record.Reads.Learnt (List ℕ)
-    (λ κs x e. now (e .1 .1 .0))
-next-record-told-one κs a x y e f p q = p .1 ∙ sym (q .1)
+pub next-record-one : OneSight 2 next-record.Kinds.ps next-record.Kinds.r next-record.Reads.Learnt Handed
+    (λ κs x e. handed x (now (e .1 .1 .0)))
+next-record-one κs a x y e f p q = p ∙ sym q

@@ -3,10 +3,8 @@
 ghost use mathlib.Core.Path.{_≡_};
 ghost use lib.ListN.{length};
 ghost use Rattle.rules.specs.Bytes.{zeros, sameBytes};
-ghost use Rattle.form.specs.Form.{first};
-ghost use Rattle.reading.specs.Reading.{readAt, placeAfter};
 ghost use Rattle.exports.specs.Leaves.{copied};
-ghost use Rattle.exports.specs.Told.{told, toldOf};
+ghost use Rattle.exports.specs.Told.{told, toldOf, handed, nextRecord};
 use reading::Found;
 use rules::Event;
 
@@ -69,8 +67,7 @@ fn numbers_in(event: Event, start: usize, len: usize) -> [usize; 9]
 // answers the place behind it; the same place where no record was read.
 #[no_mangle]
 pub extern "C" fn next_record(unread: &[u8], place: usize, out: &mut [usize; 9]) -> usize
-    ensures { λ r. ⌜ r ≡ placeAfter (readAt first (now (unread .entry)) place) place ⌝ }
-    ensures { λ _. ⌜ now (out .exit) ≡ told (readAt first (now (unread .entry)) place) ⌝ }
+    ensures { λ r. ⌜ handed r (now (out .exit)) ≡ nextRecord (now (unread .entry)) place ⌝ }
 {
     let found = reading::record_at(unread, place);
     *out = numbers_of(found);

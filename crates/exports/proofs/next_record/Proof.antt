@@ -1,19 +1,16 @@
 -- `exports::next_record` meets its contract: what is told, and the place, are those of what `record_at` finds.
-use mathlib.Core.Path.{ap, _∙_}
+use mathlib.Core.Path.{ap, ap₂, _∙_}
 use borrow.Author.Needs.{needs}
-use Rattle.reading.specs.Reading.{placeAfter}
 use Rattle.reading.specs.declared.Found.{Found}
-use Rattle.exports.specs.Told.{told}
+use Rattle.exports.specs.Told.{handed, handedOf}
 use Rattle.exports.proofs.next_record.Statement.{statement}
 use Rattle.exports.proofs.next_record.Tie as tie
 
 returns : tie.Need-returns
 returns c =
-    let found = c .before .before .record-at .ensures in
-    let a = c .before .before .before .before .args in (
-      c .place-after .ensures ∙ ap (λ (f : Found). placeAfter f (a .place)) found,
-      c .before .numbers-of .ensures ∙ ap (λ (f : Found). told f) found,
-    )
+    let place = c .before .before .before .before .args .place in
+    ap₂ handed (c .place-after .ensures) (c .before .numbers-of .ensures)
+    ∙ ap (λ (f : Found). handedOf f place) (c .before .before .record-at .ensures)
 
 pub next-record-spec : {M : Type 1} → statement M
 next-record-spec =
