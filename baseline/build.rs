@@ -1,5 +1,5 @@
-//! With the feature `leaves`, links the static library of proved leaves to the benchmark, and to nothing else.
-//! LEAVES_DIR is the folder that holds it; LEAVES_LIB is its name between `lib` and `.a` (default: leaves).
+//! With the feature `leaves`, links the static library of proved leaves and reader to the benchmark, and to nothing else.
+//! LEAVES_DIR is the folder that holds it; LEAVES_LIB is its name between `lib` and `.a` (default: exports).
 
 use std::env;
 use std::path::Path;
@@ -13,7 +13,7 @@ fn main() {
         return;
     }
     let folder = env::var("LEAVES_DIR").expect("LEAVES_DIR: the folder of the static library of leaves");
-    let name = env::var("LEAVES_LIB").unwrap_or_else(|_| "leaves".to_string());
+    let name = env::var("LEAVES_LIB").unwrap_or_else(|_| "exports".to_string());
     // Cargo runs this in the package's folder; a relative LEAVES_DIR is meant from there.
     let archive = Path::new(&folder).join(format!("lib{name}.a"));
     let archive = archive.canonicalize().unwrap_or_else(|error| panic!("{}: {error}", archive.display()));

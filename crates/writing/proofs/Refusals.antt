@@ -1,6 +1,6 @@
 -- Which number the writer's checks give, by the tests that the code made; and what is known where it is 0. Assumes nothing.
 use mathlib.Core.Path.{_≡_, refl, sym, ap, subst, _∙_}
-use mathlib.Core.Bool.{Bool, true, false, not}
+use mathlib.Core.Bool.{Bool, true, false, not, _&&_, and-true}
 use mathlib.Core.List.{List, [], _∷_}
 use Prim.Native.Nat.{ℕ, _+_, _-_, _*_, _/_, _^_, _≤_, _<_}
 use native.Mathlib.Nat.{div-eq-of-lt, div-lt-iff-lt-mul, one-mul, not-le-of-lt}
@@ -36,6 +36,11 @@ fits-test v w = go (ltb v (2 ^ w)) refl
         (subst (λ (x : ℕ). v < x) (one-mul (2 ^ w))
         (div-lt-iff-lt-mul {k = 2 ^ w} {x = v} {y = 1} (pow-pos w) .0 (omega (arith, e))))
         (ltb-false v (2 ^ w) t))
+
+-- three tests, as the code joins them
+pub all-three : (a b c inner outer : Bool) → inner ≡ b && c → outer ≡ a && inner → outer ≡ allOf (a ∷ b ∷ c ∷ [])
+unfolding allOf
+all-three a b c inner outer p q = simp and-true (q ∙ ap (λ (x : Bool). a && x) p)
 
 -- a header; r is what the code found of the setup
 module _ (s : Setup) (supply : List ℕ) (room : ℕ) (r : Bool) (er : r ≡ setupInRange s) where

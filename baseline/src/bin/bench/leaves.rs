@@ -5,8 +5,8 @@ use std::hint::black_box;
 use std::time::Instant;
 
 const LENGTH: usize = 4096;
-const CALLS: usize = 20_000;
-const RUNS: usize = 21;
+const CALLS: usize = 1_000;
+const RUNS: usize = 401;
 
 // A slice passes as a pointer and then a length. Nothing checks these declarations against the library's source.
 extern "C" {
@@ -39,17 +39,16 @@ fn same(a: &[u8], b: &[u8]) -> bool {
 /// Checks the leaves, then prints how they compare with memcpy, memset and memcmp.
 pub fn print_table() {
     check();
-    let mut a: Vec<u8> = (0..LENGTH).map(|i| i as u8).collect();
-    let b = a.clone();
+    let source: Vec<u8> = (0..LENGTH).map(|i| i as u8).collect();
+    let (mut a, mut b) = (source.clone(), source.clone());
     println!("| leaf | ns a call | libc | ns a call | ratio |\n|---|---|---|---|---|");
-    let leaf = time(|| copy(black_box(&mut a), black_box(&b)));
-    let libc = time(|| black_box(&mut a[..]).copy_from_slice(black_box(&b)));
+    let (leaf, libc) =
+        times(|| copy(black_box(&mut a), black_box(&source)), || black_box(&mut b[..]).copy_from_slice(black_box(&source)));
     print_row("copy", &leaf, "memcpy", &libc);
-    let leaf = time(|| assert!(same(black_box(&a), black_box(&b))));
-    let libc = time(|| assert!(black_box(&a[..]) == black_box(&b[..])));
+    let (leaf, libc) =
+        times(|| assert!(same(black_box(&a), black_box(&source))), || assert!(black_box(&b[..]) == black_box(&source[..])));
     print_row("same, equal bytes", &leaf, "memcmp", &libc);
-    let leaf = time(|| zero(black_box(&mut a)));
-    let libc = time(|| black_box(&mut a[..]).fill(0));
+    let (leaf, libc) = times(|| zero(black_box(&mut a)), || black_box(&mut b[..]).fill(0));
     print_row("zero", &leaf, "memset", &libc);
 }
 
@@ -64,17 +63,22 @@ fn print_row(leaf: &str, ours: &Sample, libc: &str, theirs: &Sample) {
     );
 }
 
-/// The nanoseconds of one call, measured several times over many calls.
-fn time(mut call: impl FnMut()) -> Sample {
-    let mut run = || {
-        let start = Instant::now();
-        for _ in 0..CALLS {
-            call();
-        }
-        start.elapsed().as_secs_f64() * 1e9 / CALLS as f64
-    };
-    run();
-    Sample::new((0..RUNS).map(|_| run()).collect())
+/// The nanoseconds of one call of each. Runs are short, many, and in turn, so that other work on the machine disturbs few of
+/// them and both alike.
+fn times(mut ours: impl FnMut(), mut theirs: impl FnMut()) -> (Sample, Sample) {
+    run(&mut ours);
+    run(&mut theirs);
+    let (ours, theirs) = (0..RUNS).map(|_| (run(&mut ours), run(&mut theirs))).unzip();
+    (Sample::new(ours), Sample::new(theirs))
+}
+
+/// The nanoseconds of one call, over several.
+fn run(call: &mut impl FnMut()) -> f64 {
+    let start = Instant::now();
+    for _ in 0..CALLS {
+        call();
+    }
+    start.elapsed().as_secs_f64() * 1e9 / CALLS as f64
 }
 
 /// That the leaves do what they are timed for, at several lengths and for a difference at each place.

@@ -3,7 +3,7 @@
 //!     baseline/bench [PROGRAM [RUNS]]
 //!
 //! PROGRAM reads a trace on standard input and writes its listing (default: target/bin/trace_run). The `baseline` program must
-//! stand beside this one. With the feature `leaves` (see build.rs) the proved leaves are measured too.
+//! stand beside this one. With the feature `leaves` (see build.rs) the proved leaves and the proved reader are measured too.
 
 #![deny(unsafe_code)]
 
@@ -11,6 +11,9 @@
 #[allow(unsafe_code)]
 mod leaves;
 mod processes;
+#[cfg(feature = "leaves")]
+#[allow(unsafe_code)]
+mod reading;
 mod sample;
 mod traces;
 
@@ -65,16 +68,19 @@ fn contestants(program: &str) -> Result<[Contestant; 3], Box<dyn Error>> {
     ])
 }
 
-/// (a) The leaves at 4,096 bytes.
+/// (a) The leaves at 4,096 bytes, and the reader.
 fn part_a() {
     println!(
         "(a) Leaves at 4,096 bytes: the median and, in brackets, the quartiles; a ratio is of the medians, and in brackets of the\n\
          least times. The buffers are written once before and not cleared between the calls.\n"
     );
     #[cfg(feature = "leaves")]
-    leaves::print_table();
+    {
+        leaves::print_table();
+        reading::print_lines();
+    }
     #[cfg(not(feature = "leaves"))]
-    println!("Not measured: build with --features leaves and LEAVES_DIR, the folder of the static library.");
+    println!("Not measured: neither `rt`, to make the static library, nor LEAVES_DIR, the folder of one.");
     println!();
 }
 

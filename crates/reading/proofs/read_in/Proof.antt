@@ -18,6 +18,16 @@ kernel-owns o k e h = subst (λ (x : Owner). Owns x k) (sym e) (omega arith)
 application-owns : (o : Owner) (k : ℕ) → o ≡ Application → 7 ≤ k → k < 14 → Owns o k
 application-owns o k e h g = subst (λ (x : Owner). Owns x k) (sym e) (h, omega arith)
 
+record-of-requires : tie.Need-record-of-requires
+record-of-requires c κs =
+    let k = c .before .before .before .kind-in .result in
+    let s = c .before .before .before .before .before .before .before .before in (
+      s .pre,
+      omega arith,
+      ⊎-elim (λ w. kernel-owns (c .if4 .owner) k (w .1) (w .0 .taken))
+          (λ w. application-owns (c .if4 .owner) k (w .2) (w .0 .left) (w .1 .taken)) (c .if4 .came),
+    )
+
 returns : tie.Need-returns
 returns c =
     let a = c .before .before .args in
@@ -45,16 +55,6 @@ returns-4 c =
     let a = z .before .before .before .args in
     read-none (a .form) (a .unread .now) (a .place) (omega arith) (z .if2 .left) (k .kind-in .result) (k .kind-in .ensures) (x .if3 .left)
     (c .if5 .left)
-
-record-of-requires : tie.Need-record-of-requires
-record-of-requires c κs =
-    let k = c .before .before .before .kind-in .result in
-    let s = c .before .before .before .before .before .before .before .before in (
-      s .pre,
-      omega arith,
-      ⊎-elim (λ w. kernel-owns (c .if4 .owner) k (w .1) (w .0 .taken))
-          (λ w. application-owns (c .if4 .owner) k (w .2) (w .0 .left) (w .1 .taken)) (c .if4 .came),
-    )
 
 returns-5 : tie.Need-returns-5
 unfolding kindIn

@@ -1,14 +1,13 @@
 -- `writing::span_fits` meets its contract: the list of tests is their conjunction.
-use mathlib.Core.Bool.{and-true}
 use borrow.Author.Needs.{needs}
-use Rattle.rules.specs.Bytes.{allOf}
 use Rattle.writing.specs.Writing.{spanFits}
+use Rattle.writing.proofs.Refusals.{all-three}
 use Rattle.writing.proofs.span_fits.Statement.{statement}
 use Rattle.writing.proofs.span_fits.Tie as tie
 
 returns : tie.Need-returns
-unfolding spanFits allOf
-returns c = simp and-true (cc)
+unfolding spanFits
+returns c = all-three _ _ _ _ _ (c .before .both .ensures) (c .both2 .ensures)
 
 pub span-fits-spec : {M : Type 1} → statement M
 span-fits-spec =

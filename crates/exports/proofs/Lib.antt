@@ -1,0 +1,2 @@
+-- What the exported functions rest on.
+pub mod OneAnswer

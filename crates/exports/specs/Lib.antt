@@ -1,0 +1,3 @@
+-- What the exported functions leave.
+pub mod Leaves
+pub mod Told
