@@ -1,10 +1,11 @@
 // Single records and their parts, asked as the rules ask them.
 ghost use mathlib.Core.Path.{_≡_};
 ghost use mathlib.Core.Bool.{not};
-ghost use Prim.Native.Nat.{_<_, _≤_, _*_};
-ghost use Rattle.rules.specs.Sizes.{pageNumber, maxDomains, maxPages};
+ghost use Prim.Native.Nat.{_<_, _≤_};
+ghost use Rattle.rules.specs.Sizes.{maxDomains, maxPages};
 ghost use Rattle.rules.specs.Records.{isEmpty, isStopped, isFree, isRunning, isKeptIn, isUnmapped, isPublic, isClearIn, domainWhere, frameWhere};
 ghost use Rattle.rules.specs.Sealing.{takesAt};
+ghost use Rattle.conditions.specs.Entries.{Entry};
 use rules::Activity;
 use rules::Asid;
 use rules::Gppn;
@@ -140,7 +141,7 @@ pub fn takes_at(place: Place) -> u8
 // The number of a page among all, which is within the table of pages.
 pub fn page_number(setup: Setup, d: Asid, v: Gvpn) -> usize
     requires { ⌜ (setup .pages ≤ maxPages) × (d .0 < maxDomains) × (v .0 < setup .pages) ⌝ }
-    ensures { λ r. ⌜ (r ≡ pageNumber setup d v) × (r < maxDomains * maxPages) ⌝ }
+    ensures { λ r. ⌜ Entry setup d v r ⌝ }
 {
     (d.0 as usize) * setup.pages + (v.0 as usize)
 }

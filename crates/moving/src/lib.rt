@@ -1,12 +1,10 @@
 // What sealing and unveiling are made of: a page's number, the number of the signature, a record's new place, and the bytes that
 // move between frames and store.
 ghost use mathlib.Core.Path.{_≡_};
-ghost use mathlib.Core.Bool.{cond};
 ghost use Prim.Native.Nat.{_+_, _*_, _<_, _≤_};
 ghost use lib.ListN.{length};
-ghost use Rattle.rules.specs.Bytes.{part, withPart, sameBytes};
 ghost use Rattle.rules.specs.Sealing.{sealedWith, takes};
-ghost use Rattle.moving.specs.Numbers.{Limited, Numbered};
+ghost use Rattle.moving.specs.Numbers.{Limited, Numbered, SealedBytes, UnveiledBytes};
 use rules::Asid;
 use rules::Gvpn;
 use rules::PageRecord;
@@ -62,7 +60,7 @@ pub fn seal_bytes(
     k: usize,
 )
     requires { ⌜ (f * size + size ≤ length (now frames)) × (slot * size + size ≤ length (now store)) × (k * size + size ≤ length (now supply)) ⌝ }
-    ensures { λ _. ⌜ (now (frames .exit) ≡ withPart size f (part size k (now (supply .entry))) (now (frames .entry))) × (now (store .exit) ≡ withPart size slot (part size f (now (frames .entry))) (now (store .entry))) ⌝ }
+    ensures { λ _. ⌜ SealedBytes size f slot k (now (supply .entry)) (now (frames .entry)) (now (store .entry)) (now (frames .exit)) (now (store .exit)) ⌝ }
 {
     pages::copy_page(store, size, slot, pages::page(frames, size, f));
     pages::copy_page(frames, size, f, pages::page(supply, size, k));
@@ -79,7 +77,7 @@ pub fn unveil_bytes(
     k: usize,
 ) -> bool
     requires { ⌜ (f * size + size ≤ length (now frames)) × (slot * size + size ≤ length (now store)) × (k * size + size ≤ length (now supply)) ⌝ }
-    ensures { λ r. ⌜ (r ≡ sameBytes (part size f (now (frames .entry))) (part size k (now (supply .entry)))) × (now (frames .exit) ≡ cond r (withPart size f (part size slot (now (store .entry))) (now (frames .entry))) (now (frames .entry))) ⌝ }
+    ensures { λ r. ⌜ UnveiledBytes size f slot k (now (supply .entry)) (now (store .entry)) (now (frames .entry)) r (now (frames .exit)) ⌝ }
 {
     let start = k * size;
     let end = start + size;

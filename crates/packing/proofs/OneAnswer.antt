@@ -21,7 +21,7 @@ pub field-one : OneAnswer 0 field.Kinds.ps field.Kinds.r field.Reads.Learnt
 field-one κs a x y e f p q = p ∙ sym q
 
 pub none-one : OneAnswer 0 none.Kinds.ps none.Kinds.r none.Reads.Learnt
-none-one κs a x y e f p q = same x y (p .0 ∙ sym (q .0)) (p .1 ∙ sym (q .1))
+none-one κs a x y e f p q = same x y (p .number ∙ sym (q .number)) (p .bits ∙ sym (q .bits))
 
 pub with-one : OneAnswer 0 with.Kinds.ps with.Kinds.r with.Reads.Learnt
 with-one κs a x y e f p q = same x y (p .number ∙ sym (q .number)) (p .bits ∙ sym (q .bits))

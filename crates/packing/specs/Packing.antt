@@ -40,6 +40,12 @@ octets (suc k) = 8 ∷ octets k
 pub record Sized (p : Packed) : Type 0 where
   pub within : p .number < 2 ^ p .bits
 
+-- nothing packed yet
+pub record Bare (p : Packed) : Type 0 where
+  pub number : p .number ≡ 0
+  pub bits : p .bits ≡ 0
+  pub sized : Sized p
+
 -- one more field, and what it has room for
 pub record Room (p : Packed) (width value : ℕ) : Type 0 where
   pub sized : Sized p

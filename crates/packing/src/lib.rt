@@ -4,7 +4,7 @@ ghost use mathlib.Core.Path.{_≡_};
 ghost use mathlib.Core.List.{_++_};
 ghost use Prim.Native.Nat.{_+_, _*_, _/_, _%_, _^_, _≤_, _<_};
 ghost use lib.ListN.{length, take, drop};
-ghost use Rattle.packing.specs.Packing.{join, split, octets, Sized, Room, Longer};
+ghost use Rattle.packing.specs.Packing.{join, split, octets, Bare, Room, Longer};
 
 // The number that the first k bytes spell, byte by byte.
 fn spelt(bytes: &[u8], k: usize) -> usize
@@ -49,7 +49,7 @@ pub struct Packed {
 
 impl Packed {
     pub fn none() -> Packed
-        ensures { λ r. ⌜ (r .number ≡ 0) × (r .bits ≡ 0) × Sized r ⌝ }
+        ensures { λ r. ⌜ Bare r ⌝ }
     {
         Packed { number: 0, bits: 0 }
     }

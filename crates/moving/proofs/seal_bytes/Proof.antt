@@ -26,7 +26,7 @@ same-length-2 : tie.Need-same-length-2
 same-length-2 c = search needs
 
 returns : tie.Need-returns
-returns c = (cc, cc)
+returns c = record { frames-left = cc; store-left = cc }
 
 pub seal-bytes-spec : {M : Type 1} → statement M
 seal-bytes-spec =

@@ -38,7 +38,7 @@ same-length c = search needs
 returns : tie.Need-returns
 returns c =
     let a = c .before .before .before .before .before .before .before .before .before .before .before .before .args in
-    (cc (mid-part (a .size) (a .k) (a .supply .now)), cc)
+    record { compared = cc (mid-part (a .size) (a .k) (a .supply .now)); frames-left = cc }
 
 same-length-2 : tie.Need-same-length-2
 same-length-2 c = search needs
@@ -46,7 +46,7 @@ same-length-2 c = search needs
 returns-2 : tie.Need-returns-2
 returns-2 c =
     let a = c .before .before .before .before .before .before .before .args in
-    (cc (mid-part (a .size) (a .k) (a .supply .now)), refl)
+    record { compared = cc (mid-part (a .size) (a .k) (a .supply .now)); frames-left = refl }
 
 pub unveil-bytes-spec : {M : Type 1} → statement M
 unveil-bytes-spec =

@@ -48,7 +48,7 @@ returns c =
     let after = branch .before .before .before in
     let number = after .before .before .before in
     unveil-done _ _ _ _ (number .before .before .before .before .args .work) _ _ _ _ (number .page-number .ensures .is)
-    (after .unveil-bytes .ensures .0) (after .unveil-bytes .ensures .1) (branch .if1 .taken) (c .before .placed .ensures)
+    (after .unveil-bytes .ensures .compared) (after .unveil-bytes .ensures .frames-left) (branch .if1 .taken) (c .before .placed .ensures)
 
 stopped-requires : tie.Need-stopped-requires
 stopped-requires c κs = search needs
@@ -62,7 +62,7 @@ returns-2 c saved =
     let after = branch .before .before .before in
     let number = after .before .before .before in
     unveil-failed _ _ _ _ (number .before .before .before .before .args .work) _ _ _ _ (number .page-number .ensures .is)
-    (after .unveil-bytes .ensures .0) (after .unveil-bytes .ensures .1) (branch .if1 .left) saved (c .stopped .ensures saved _ _)
+    (after .unveil-bytes .ensures .compared) (after .unveil-bytes .ensures .frames-left) (branch .if1 .left) saved (c .stopped .ensures saved _ _)
 
 pub unveil-spec : {M : Type 1} → statement M
 unveil-spec =

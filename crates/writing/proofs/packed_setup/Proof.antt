@@ -21,7 +21,7 @@ so-far c =
       w3 .with3 .ensures .bits,
       w2 .with2 .ensures .bits,
       w1 .with .ensures .bits,
-      w1 .before .before .none .ensures .1,
+      w1 .before .before .none .ensures .bits,
     )
 
 with-requires-6 : tie.Need-with-requires-6
@@ -50,7 +50,7 @@ returns c =
     (longer _ _ _ (w5 .with5 .ensures)
     (longer _ _ _ (w4 .with4 .ensures)
     (longer _ _ _ (w3 .with3 .ensures)
-    (longer _ _ _ (w2 .with2 .ensures) (longer _ _ _ (w1 .with .ensures) (w1 .before .before .none .ensures .0)))))))
+    (longer _ _ _ (w2 .with2 .ensures) (longer _ _ _ (w1 .with .ensures) (w1 .before .before .none .ensures .number)))))))
 
 pub packed-setup-spec : {M : Type 1} → statement M
 packed-setup-spec =

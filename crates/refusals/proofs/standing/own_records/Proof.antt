@@ -36,7 +36,7 @@ element-copy-out-page : tie.Need-element-copy-out-page
 element-copy-out-page c = search needs
 
 returns : tie.Need-returns
-returns c = rw (c .before .page-number .ensures .0, c .before .before .before .before .domain-where .ensures)
+returns c = rw (c .before .page-number .ensures .is, c .before .before .before .before .domain-where .ensures)
 
 pub own-records-spec : {M : Type 1} → statement M
 own-records-spec =

@@ -44,7 +44,7 @@ unfolding takesNamed
 returns-2 c =
     rw (
       c .before .before .before .before .names .given .1,
-      ← c .before .before .page-number .ensures .0,
+      ← c .before .before .page-number .ensures .is,
     )
     (c .takes-at .ensures)
 

@@ -42,7 +42,7 @@ returns c =
     let a = c .before .before .before .before .before .before .before .args in
     let mapped : c .before .is-mapped .result ≡ not (isUnmapped (mappingOf (a .setup) (a .t2) (a .d) (a .v))) =
     c .before .is-mapped .ensures
-    ∙ ap (λ (n : ℕ). not (isUnmapped ((getD (a .t2 .pages) n publicPage) .mapping))) (c .before .before .before .before .page-number .ensures .0) in
+    ∙ ap (λ (n : ℕ). not (isUnmapped ((getD (a .t2 .pages) n publicPage) .mapping))) (c .before .before .before .before .page-number .ensures .is) in
     none-needed (a .setup) (a .t2) (Unmap (a .d) (a .v)) (c .fit .result)
     (rw (← c .before .before .is-empty .ensures, ← mapped) (c .fit .ensures))
     (c .before .before .before .before .before .before .before .pre .0 .used)
