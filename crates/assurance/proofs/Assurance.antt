@@ -270,10 +270,9 @@ module _ {g : Given} {frames store : List ℕ} {earlier : List Ask} (r : CodeRun
         → Stops (domainOf (a .tables) u) (step g (touch t u v y) new′ buffer′ a)
 
     -- So where the supply's signatures differ, the old one in the page's frame, when the page is next touched, stops the domain.
-    pub code-replay-stops : Distinct g → (t : Touch) (u : Ctc) → domainOf (now .state .tables) u ≡ d → (y : Span) (new′ buffer′ : List ℕ)
-        (l : Left)
-        → MayStep g now (asking (touch t u v y) new′ buffer′) l → (k : ℕ)
-        → refusal g (held now) (touch t u v y) (length new′) (length buffer′) ≡ 0
+    pub code-replay-stops : Distinct g → (t : Touch) (u : Ctc) → domainOf (now .state .tables) u ≡ d
+        → (y : Span) (new′ buffer′ : List ℕ) (l : Left) → MayStep g now (asking (touch t u v y) new′ buffer′) l
+        → (k : ℕ) → refusal g (held now) (touch t u v y) (length new′) (length buffer′) ≡ 0
         → placeOf (g .setup) ((touched g (held now) (touch t u v y)) .tables) d v ≡ Sealed k
         → frameBytes (g .setup) (ownFrame (g .setup) (now .state .tables) u v) (touched g (held now) (touch t u v y)) ≡ signature g j
         → Stopping d l
