@@ -2,7 +2,7 @@
 -- data and answer buffers. A `CodeRun` is a start and then a call for each event, each with a result and bytes left that the
 -- function's own promise allows (specs/Calls.antt). `point r` is what its latest call left, `MayStep g (point r) a l` a further call
 -- that leaves l. Assumes nothing.
-use mathlib.Core.Path.{_≡_, sym, ap, ap₂, _∙_, subst}
+use mathlib.Core.Path.{_≡_, sym, ap, ap₂, _∙_, transport, transport⁻¹, subst}
 use mathlib.Core.Logic.{_≢_}
 use mathlib.Core.List.{List, [], map}
 use mathlib.Core.Bool.{true, not}
@@ -39,7 +39,7 @@ use Rattle.assurance.specs.Calls.{MayStep, MaySteps, CodeRun, lastOf, po
 use Rattle.assurance.specs.Told.{answerBytes, DifferOnlyInSecrets, SameRuns, pastOf, Stopping}
 use Rattle.assurance.proofs.Calls.{start-left, start-held, held-left, step-left, last-held, all-left, runs-on}
 use Rattle.assurance.proofs.Bytes.{buffer-left, answer-long}
-use Rattle.assurance.proofs.Telling.{same-past, same-tables, same-secrets, their-secrets, same-runs}
+use Rattle.assurance.proofs.Telling.{same-past, same-tables, same-secrets, same-runs}
 
 abbrev asking : Event → List ℕ → List ℕ → Ask
 asking e new buffer = record { event = e; new = new; buffer = buffer }
@@ -168,9 +168,17 @@ module _ {g : Given} {frames store : List ℕ} {asks : List Ask} (r : CodeRun g 
       buffer-left g (Resume d c) new buffer (reached g frames store asks)
       ∙ ap (λ (bytes : List ℕ). overlay 0 bytes buffer) (rule-freshness.resume-is-last-trap g frames store asks d c new buffer ok))
 
--- Secrecy: what the administrator of the guest kernel can learn of the service's memory. Two runs of the code start, each over whatever
--- frames and store it was lent, and their events differ only in bytes written to pages that are private at that moment and in
--- registers that a trap does not show.
+-- Secrecy: what the administrator of the guest kernel can learn of the service's memory.
+
+-- That the events of two runs of the code differ only in secrets says the same as of the rules' runs: the moment's tables are the same.
+pub code-secrets : {g : Given} {frames store : List ℕ} {asks : List Ask} (r : CodeRun g frames store asks) (others : List Ask)
+    → DifferOnlyInSecrets (g .setup) (r .first) (r .lefts) asks others
+    ≡ rule-secrets.DifferOnlyInSecrets g (start g frames store) asks others
+code-secrets {g} {frames} {store} {asks} r =
+    same-secrets g (r .first) (start g frames store) (start-held g frames store (r .first) (r .starts)) asks (r .lefts) (r .steps)
+
+-- Two runs of the code start, each over whatever frames and store it was lent, and their events differ only in bytes written to pages
+-- that are private at that moment and in registers that a trap does not show.
 module _ {g : Given} {frames frames′ store store′ : List ℕ} {asks others : List Ask} (r : CodeRun g frames store asks)
     (q : CodeRun g frames′ store′ others) (granted : r .first .answer .number ≡ 0) (granted′ : q .first .answer .number ≡ 0)
     (secrets : DifferOnlyInSecrets (g .setup) (r .first) (r .lefts) asks others) where
@@ -184,19 +192,12 @@ module _ {g : Given} {frames frames′ store store′ : List ℕ} {asks others :
       same-runs g (r .first) (q .first) (start g frames store) (start g frames′ store′) from from′ asks others (r .lefts) (q .lefts)
       (r .steps) (q .steps)
       (rule-secrecy.secret g frames frames′ store store′ (granted-start r granted) (granted-start q granted′) asks others
-      (same-secrets g (r .first) (start g frames store) from asks (r .lefts) (r .steps) others secrets))
-
--- That two runs of the code differ only in secrets is the same as that the rules' runs do: the moment's tables are the same.
-pub code-secrets : {g : Given} {frames store : List ℕ} {asks : List Ask} (r : CodeRun g frames store asks) (others : List Ask)
-    → rule-secrets.DifferOnlyInSecrets g (start g frames store) asks others
-    → DifferOnlyInSecrets (g .setup) (r .first) (r .lefts) asks others
-code-secrets {g} {frames} {store} {asks} r others =
-    their-secrets g (r .first) (start g frames store) (start-held g frames store (r .first) (r .starts)) asks (r .lefts) (r .steps) others
+      (transport (code-secrets r others) secrets))
 
 -- So the premises can be met by runs of the code whose secrets differ: the two services of `secrecy`.
 pub code-services-differ : (r : CodeRun example (replicate 32 255) (replicate 32 255) (one .asks))
     → DifferOnlyInSecrets small (r .first) (r .lefts) (one .asks) (other .asks)
-code-services-differ r = code-secrets r (other .asks) differ-in-secrets
+code-services-differ r = transport⁻¹ (code-secrets r (other .asks)) differ-in-secrets
 
 -- The converse, of any state and bytes that are handed in, p. A context touches its own page, to read or to write it, and none of the
 -- checks that come first refuses it. Once what stands in the way is sealed, the page is Sealed with signature k, its latest.

@@ -35,29 +35,17 @@ module _ (g : Given) where
   unfolding outset
   same-tables p m same = ap (λ (x : Machine). x .tables) same
 
+  -- so that two runs differ only in secrets where the rules' runs do, and the other way round
   pub same-secrets : (p : Left) (m : Machine) → held p ≡ outset m → (asks : List Ask) (lefts : List Left) → MaySteps g p asks lefts
-      → (others : List Ask) → DifferOnlyInSecrets (g .setup) p lefts asks others → rule.DifferOnlyInSecrets g m asks others
-  same-secrets p m same [] [] c [] h = tt
-  same-secrets p m same [] [] c (b ∷ others) h = absurd h
-  same-secrets p m same [] (l ∷ lefts) c others h = absurd c
-  same-secrets p m same (a ∷ asks) [] c others h = absurd c
-  same-secrets p m same (a ∷ asks) (l ∷ lefts) c [] h = absurd h
-  same-secrets p m same (a ∷ asks) (l ∷ lefts) c (b ∷ others) h = (
-    subst (λ (t : Tables). rule.DifferInSecrets (g .setup) t a b) (same-tables p m same) (h .0),
-    same-secrets l ((answered g m a) .machine) (next-held g p m same a l (c .0)) asks lefts (c .1) others (h .1),
-  )
-
-  pub their-secrets : (p : Left) (m : Machine) → held p ≡ outset m → (asks : List Ask) (lefts : List Left) → MaySteps g p asks lefts
-      → (others : List Ask) → rule.DifferOnlyInSecrets g m asks others → DifferOnlyInSecrets (g .setup) p lefts asks others
-  their-secrets p m same [] [] c [] h = tt
-  their-secrets p m same [] [] c (b ∷ others) h = absurd h
-  their-secrets p m same [] (l ∷ lefts) c others h = absurd c
-  their-secrets p m same (a ∷ asks) [] c others h = absurd c
-  their-secrets p m same (a ∷ asks) (l ∷ lefts) c [] h = absurd h
-  their-secrets p m same (a ∷ asks) (l ∷ lefts) c (b ∷ others) h = (
-    subst (λ (t : Tables). rule.DifferInSecrets (g .setup) t a b) (sym (same-tables p m same)) (h .0),
-    their-secrets l ((answered g m a) .machine) (next-held g p m same a l (c .0)) asks lefts (c .1) others (h .1),
-  )
+      → (others : List Ask) → DifferOnlyInSecrets (g .setup) p lefts asks others ≡ rule.DifferOnlyInSecrets g m asks others
+  same-secrets p m same [] [] c [] = refl
+  same-secrets p m same [] [] c (b ∷ others) = refl
+  same-secrets p m same [] (l ∷ lefts) c others = absurd c
+  same-secrets p m same (a ∷ asks) [] c others = absurd c
+  same-secrets p m same (a ∷ asks) (l ∷ lefts) c [] = refl
+  same-secrets p m same (a ∷ asks) (l ∷ lefts) c (b ∷ others) =
+      ap₂ (λ (A B : Type 0). A × B) (ap (λ (t : Tables). rule.DifferInSecrets (g .setup) t a b) (same-tables p m same))
+      (same-secrets l ((answered g m a) .machine) (next-held g p m same a l (c .0)) asks lefts (c .1) others)
 
   -- what the kernel is told
   told-bytes : (m : Machine) (a : Ask) (b : Bool) → rule.forApplication (g .setup) (m .tables) (a .event) ≡ b
