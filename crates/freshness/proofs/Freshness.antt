@@ -46,7 +46,8 @@ module _ (g : Given) (frames store : List ℕ) (asks : List Ask) where
 
   -- What the past tells is what the tables say: of each page whether it is private, and of each running context its domain.
   pub private-is-told : (d : Asid) (v : Gvpn) → d .0 < g .setup .domains → v .0 < g .setup .pages
-      → (pageBy (past g frames store asks) d v) .private ≡ not (isPublic (placeOf (g .setup) ((reached g frames store asks) .tables) d v))
+      → (pageBy (past g frames store asks) d v) .private
+      ≡ not (isPublic (placeOf (g .setup) ((reached g frames store asks) .tables) d v))
   private-is-told d v hd hv = ((run-known g frames store asks) .pages d v (record { domain = hd; page = hv })) .private
 
   pub home-is-told : (c : Ctc) → running ((reached g frames store asks) .tables) c ≡ true
@@ -72,8 +73,8 @@ module _ (g : Given) (m : Machine) (w : Touch) (c : Ctc) (v : Gvpn) (x : Span) (
 
 -- An older signature. After a granted start and the events `earlier` the page v of a context's domain bears signature j, Sealed or
 -- Clear and clean; then, after the events `between`, the context is granted a write to it; and then come the events `later`.
-module _ (g : Given) (frames store : List ℕ) (started : startRefusal g frames store ≡ 0) (earlier between later : List Ask) (c : Ctc) (v : Gvpn)
-    (x : Span) (new buffer : List ℕ) (j : ℕ) where
+module _ (g : Given) (frames store : List ℕ) (started : startRefusal g frames store ≡ 0) (earlier between later : List Ask)
+    (c : Ctc) (v : Gvpn) (x : Span) (new buffer : List ℕ) (j : ℕ) where
   abbrev before : Machine
   before = after g (reached g frames store earlier) between
 
@@ -87,15 +88,17 @@ module _ (g : Given) (frames store : List ℕ) (started : startRefusal g frames 
       (wrote : (step g (Write c v x) new buffer before) .number ≡ 0) where
     since : Since (g .setup) d v (j + 1) now
     since =
-        older-since g (reached g frames store earlier) (after-good g earlier (start g frames store) (start-good g frames store started)) between later c v x
-        new buffer wrote j (passed _ bore)
+        older-since g (reached g frames store earlier)
+        (after-good g earlier (start g frames store) (start-good g frames store started)) between later c v x new buffer wrote j
+        (passed _ bore)
 
     -- Whatever signature the page bears from then on is a later one.
     pub older-is-past : (k : ℕ) → bears k (placeOf (g .setup) (now .tables) d v) ≡ true → j < k
     older-is-past k bears-it = older-below (g .setup) d v j k now since (passed _ bears-it)
 
     -- So where the supply's signatures differ, the old one in the page's frame, when the page is next touched, stops the domain.
-    pub replay-stops : Distinct g → (w : Touch) (u : Ctc) → domainOf (now .tables) u ≡ d → (y : Span) (new′ buffer′ : List ℕ) (k : ℕ)
+    pub replay-stops : Distinct g → (w : Touch) (u : Ctc) → domainOf (now .tables) u ≡ d
+        → (y : Span) (new′ buffer′ : List ℕ) (k : ℕ)
         → refusal g (outset now) (touch w u v y) (length new′) (length buffer′) ≡ 0
         → placeOf (g .setup) ((touched g now (touch w u v y)) .tables) (domainOf (now .tables) u) v ≡ Sealed k
         → frameBytes (g .setup) (ownFrame (g .setup) (now .tables) u v) (touched g now (touch w u v y)) ≡ signature g j

@@ -34,7 +34,7 @@ use Rattle.rules.specs.declared.Named.the-variants.{Nothing, Page}
 use Rattle.rules.proofs.Parts.{length-zeros, length-withPart, part-outside}
 use Rattle.rules.proofs.Facts.{each, all}
 use Rattle.reached.proofs.Lists.{getD-mapFrom, length-mapFrom, getD-sets-in, getD-sets-before, getD-sets-past}
-use Rattle.reached.proofs.Moves.{Within, NamesWithin, length-zeroNamed, end-zeroes}
+use Rattle.reached.proofs.Moves.{Within, NamesWithin, length-zeroNamed, end-keeps}
 use Rattle.reached.proofs.Soundness.{Sound, owned-public}
 use Rattle.reached.proofs.Keeping.{owned-kept, names-kept}
 use Rattle.reached.proofs.Moving.{named-within}
@@ -118,7 +118,7 @@ module _ (g : Given) (m : Machine) (good : Good g m) (d : Asid) (hd : d .0 < g .
   long : s .domains * s .pages ≤ length (m .tables .pages)
   long = omega (arith, good .sound .shape .pages, mul-le-mul (good .sizes .domains) (good .sizes .pages))
 
-  names-within : NamesWithin s d (m .tables .frames) 0
+  pub names-within : NamesWithin s d (m .tables .frames) 0
   names-within i t = rw zero-add (go (decLt i (s .frames)))
     where
       go : Dec (i < s .frames) → i < s .frames
@@ -129,8 +129,9 @@ module _ (g : Given) (m : Machine) (good : Good g m) (d : Asid) (hd : d .0 < g .
           none Nothing a b = b
           none (Page e v) a b = a
 
-  pub ended-frame : (f : Gppn) → frameBytes s f (ended s d m) ≡ cond (namesIn d (namesOf (m .tables) f)) (zeros (s .size)) (frameBytes s f m)
-  ended-frame f = end-zeroes s d m (good .frames) names-within f
+  -- the frames that name no page of the domain stay
+  pub ended-frame : (f : Gppn) → namesIn d (namesOf (m .tables) f) ≡ false → frameBytes s f (ended s d m) ≡ frameBytes s f m
+  ended-frame f = end-keeps s d m (good .frames) names-within f
 
   -- the slots of other domains' pages stay
   pub ended-slot : (e : Asid) (w : Gvpn) → e .0 ≢ d .0 → w .0 < s .pages → slotBytes s e w (ended s d m) ≡ slotBytes s e w m
@@ -153,7 +154,7 @@ module _ (g : Given) (m : Machine) (good : Good g m) (d : Asid) (hd : d .0 < g .
         frame =
             λ f y c.
             let n = (good .agrees .named e w f y (he .domain) (he .page) c) .1 in
-            ended-frame f ∙ rw (not-in (namesOf (m .tables) f) e w ne n);
+            ended-frame f (not-in (namesOf (m .tables) f) e w ne n);
         slot = ended-slot e w ne (he .page);
         used = ended-used;
       }

@@ -4,16 +4,16 @@ use mathlib.Core.Path.{_≡_, refl, sym, ap, _∙_}
 use mathlib.Core.Logic.{_≢_}
 use mathlib.Core.List.{List, [], _∷_}
 use mathlib.Core.Bool.{Bool, true, false, cond, true≢false}
-use Prim.Native.Nat.{ℕ, zero, suc, _+_, _*_, _≤_, _<_}
+use Prim.Native.Nat.{ℕ, suc, _+_, _*_, _≤_, _<_}
 use native.Mathlib.Nat.{zero-add, add-zero, suc-add, add-suc}
 use native.Mathlib.Omega.{arith}
 use lib.ListN.{length, getD}
 use lib.Dec.{T}
 use Rattle.rules.specs.Bytes.{part, withPart, zeros, sameBytes}
 use Rattle.rules.specs.Sizes.{pageNumber}
-use Rattle.rules.specs.Records.{Given, Machine, openFrame, placeOf, namesOf, namesIn, withLife, onTables, frameBytes, slotBytes}
+use Rattle.rules.specs.Records.{Given, Machine, openFrame, namesOf, namesIn, withLife, onTables, frameBytes, slotBytes}
 use Rattle.rules.specs.Sealing.{done, failed, signature, sealedWith, sealPage, unveiled, unveil}
-use Rattle.rules.specs.Events.{row, onFrame, zeroNamed, ended, cloaked, zeroIfClear, uncloaked, written}
+use Rattle.rules.specs.Events.{row, onFrame, zeroNamed, ended, cloaked, written}
 use Rattle.rules.specs.declared.Setup.{Setup}
 use Rattle.rules.specs.declared.Tables.{Tables}
 use Rattle.rules.specs.declared.Asid.{Asid}
@@ -39,6 +39,10 @@ pub record Within (s : Setup) (d : Asid) (v : Gvpn) : Type 0 where
 pub frame-whole : (s : Setup) (f : Gppn) (m : Machine) → f .0 < s .frames → length (m .frames) ≡ s .frames * s .size
     → length (frameBytes s f m) ≡ s .size
 frame-whole s f m hf e = length-part (s .size) (f .0) (m .frames) (part-fits (s .size) (f .0) (s .frames) hf e)
+
+-- either that a frame is filled with, zeros or what a frame held, is a whole page
+pub whole-page : (p k : ℕ) (bytes : List ℕ) → k * p + p ≤ length bytes → (length (zeros p) ≡ p) × (length (part p k bytes) ≡ p)
+whole-page p k bytes h = (length-zeros p, length-part p k bytes h)
 
 pub slot-fits : (s : Setup) (d : Asid) (v : Gvpn) (m : Machine) → Within s d v → length (m .store) ≡ s .domains * s .pages * s .size
     → pageNumber s d v * s .size + s .size ≤ length (m .store)
@@ -102,12 +106,6 @@ module _ (s : Setup) (f : Gppn) (d : Asid) (v : Gvpn) (m : Machine) (hf : f .0 <
   unfolding cloaked
   cloak-zeroes = part-same (s .size) (f .0) (zeros (s .size)) (m .frames) (length-zeros (s .size)) (part-fits (s .size) (f .0) (s .frames) hf frames)
 
-  -- The frame of one that is uncloaked is zero.
-  pub uncloak-zeroes : (w : Wear) → placeOf s (m .tables) d v ≡ Clear f w → frameBytes s f (uncloaked s d v m) ≡ zeros (s .size)
-  unfolding uncloaked zeroIfClear
-  uncloak-zeroes w place =
-      rw place (part-same (s .size) (f .0) (zeros (s .size)) (m .frames) (length-zeros (s .size)) (part-fits (s .size) (f .0) (s .frames) hf frames))
-
 -- A page that is written is dirty.
 pub write-dirties : (f : Gppn) (w : Wear) → written (Clear f w) ≡ Clear f Dirty
 unfolding written
@@ -117,57 +115,40 @@ write-dirties f w = refl
 abbrev pub NamesWithin : Setup → Asid → List FrameRecord → ℕ → Type 0
 NamesWithin s d rs k = (i : ℕ) → T (namesIn d ((getD rs i openFrame) .names)) → k + i < s .frames
 
--- the frames: those that name a page of the domain are zero, the others stay
+-- the end of a domain changes the frames that name a page of it, and no other
 module _ (s : Setup) (d : Asid) where
-  length-one : (k : ℕ) (b : Bool) (x : List ℕ) → length (cond b (withPart (s .size) k (zeros (s .size)) x) x) ≡ length x
-  length-one k true x = length-withPart (s .size) k (zeros (s .size)) x
-  length-one k false x = refl
+  pub length-one : (k : ℕ) (b : Bool) (new x : List ℕ) → length (cond b (withPart (s .size) k new x) x) ≡ length x
+  length-one k true new x = length-withPart (s .size) k new x
+  length-one k false new x = refl
 
   pub length-zeroNamed : (rs : List FrameRecord) (k : ℕ) (x : List ℕ) → length (zeroNamed s d k rs x) ≡ length x
   unfolding zeroNamed
   length-zeroNamed [] k x = refl
-  length-zeroNamed (r ∷ rs) k x = length-zeroNamed rs (suc k) _ ∙ length-one k (namesIn d (r .names)) x
+  length-zeroNamed (r ∷ rs) k x = length-zeroNamed rs (suc k) _ ∙ length-one k (namesIn d (r .names)) _ x
 
 module _ (s : Setup) (d : Asid) (j : ℕ) where
-  one-missed : (k : ℕ) (x : List ℕ) → length x ≡ s .frames * s .size → (b : Bool) → (T b → k < s .frames) → (T b → j ≢ k)
-      → part (s .size) j (cond b (withPart (s .size) k (zeros (s .size)) x) x) ≡ part (s .size) j x
-  one-missed k x e true within ne =
-      part-other (s .size) k (zeros (s .size)) x (length-zeros (s .size)) (part-fits (s .size) k (s .frames) (within tt) e) j (ne tt)
-  one-missed k x e false within ne = refl
+  one-missed : (k : ℕ) (new x : List ℕ) → length x ≡ s .frames * s .size → (b : Bool) → (T b → length new ≡ s .size) → (T b → k < s .frames)
+      → (T b → j ≢ k) → part (s .size) j (cond b (withPart (s .size) k new x) x) ≡ part (s .size) j x
+  one-missed k new x e true whole within ne =
+      part-other (s .size) k new x (whole tt) (part-fits (s .size) k (s .frames) (within tt) e) j (ne tt)
+  one-missed k new x e false whole within ne = refl
 
-  within-rest : (r : FrameRecord) (rs : List FrameRecord) (k : ℕ) → NamesWithin s d (r ∷ rs) k → NamesWithin s d rs (suc k)
+  pub within-rest : (r : FrameRecord) (rs : List FrameRecord) (k : ℕ) → NamesWithin s d (r ∷ rs) k → NamesWithin s d rs (suc k)
   within-rest r rs k h i t = rw (add-suc, ← suc-add) at (h (suc i) t)
 
-  zero-missed : (rs : List FrameRecord) (k : ℕ) (x : List ℕ) → length x ≡ s .frames * s .size → NamesWithin s d rs k
+  pub zero-missed : (rs : List FrameRecord) (k : ℕ) (x : List ℕ) → length x ≡ s .frames * s .size → NamesWithin s d rs k
       → ((i : ℕ) → T (namesIn d ((getD rs i openFrame) .names)) → k + i ≢ j) → part (s .size) j (zeroNamed s d k rs x) ≡ part (s .size) j x
   unfolding zeroNamed
   zero-missed [] k x e within ne = refl
   zero-missed (r ∷ rs) k x e within ne =
-      zero-missed rs (suc k) _ (length-one s d k (namesIn d (r .names)) x ∙ e) (within-rest r rs k within)
+      let here : T (namesIn d (r .names)) → k < s .frames = λ t. rw add-zero at (within 0 t) in
+      zero-missed rs (suc k) _ (length-one s d k (namesIn d (r .names)) _ x ∙ e) (within-rest r rs k within)
       (λ i t q. ne (suc i) t (add-suc k i ∙ sym (suc-add k i) ∙ q))
-      ∙ one-missed k x e (namesIn d (r .names)) (λ t. rw add-zero at (within 0 t)) (λ t q. ne 0 t (add-zero k ∙ sym q))
+      ∙ one-missed k _ x e (namesIn d (r .names)) (λ t. let w = whole-page (s .size) k x (part-fits (s .size) k (s .frames) (here t) e) in omega arith) here (λ t q. ne 0 t (add-zero k ∙ sym q))
 
-  zero-hit : (rs : List FrameRecord) (k : ℕ) (x : List ℕ) → length x ≡ s .frames * s .size → NamesWithin s d rs k
-      → (i : ℕ) → k + i ≡ j → namesIn d ((getD rs i openFrame) .names) ≡ true → part (s .size) j (zeroNamed s d k rs x) ≡ zeros (s .size)
-  unfolding zeroNamed
-  zero-hit [] k x e within i q t = absurd (true≢false (sym t))
-  zero-hit (r ∷ rs) k x e within zero q t =
-      let same : k ≡ j = sym (add-zero k) ∙ q in
-      zero-missed rs (suc k) _ (length-one s d k (namesIn d (r .names)) x ∙ e) (within-rest r rs k within) (λ i _ p. omega arith)
-      ∙ rw (t, ← same)
-      (part-same (s .size) k (zeros (s .size)) x (length-zeros (s .size)) (part-fits (s .size) k (s .frames) (rw add-zero at (within 0 (rw t tt))) e))
-  zero-hit (r ∷ rs) k x e within (suc i) q t =
-      zero-hit rs (suc k) _ (length-one s d k (namesIn d (r .names)) x ∙ e) (within-rest r rs k within) i (suc-add k i ∙ sym (add-suc k i) ∙ q) t
-
--- The end of a domain zeroes the frames that name a page of it, and no other.
-pub end-zeroes : (s : Setup) (d : Asid) (m : Machine) → length (m .frames) ≡ s .frames * s .size → NamesWithin s d (m .tables .frames) 0 → (f : Gppn)
-    → frameBytes s f (ended s d m) ≡ cond (namesIn d (namesOf (m .tables) f)) (zeros (s .size)) (frameBytes s f m)
+pub end-keeps : (s : Setup) (d : Asid) (m : Machine) → length (m .frames) ≡ s .frames * s .size → NamesWithin s d (m .tables .frames) 0 → (f : Gppn)
+    → namesIn d (namesOf (m .tables) f) ≡ false → frameBytes s f (ended s d m) ≡ frameBytes s f m
 unfolding ended
-end-zeroes s d m frames within f = pick (namesIn d (namesOf (m .tables) f)) refl
-  where
-    pick : (b : Bool) → namesIn d (namesOf (m .tables) f) ≡ b
-        → part (s .size) (f .0) (zeroNamed s d 0 (m .tables .frames) (m .frames)) ≡ cond b (zeros (s .size)) (frameBytes s f m)
-    pick true e = zero-hit s d (f .0) (m .tables .frames) 0 (m .frames) frames within (f .0) (zero-add (f .0)) e
-    pick false e =
-        zero-missed s d (f .0) (m .tables .frames) 0 (m .frames) frames within
-        (λ i t q. true≢false (sym (passes _ t) ∙ ap (λ (n : ℕ). namesIn d ((getD (m .tables .frames) n openFrame) .names)) (sym (zero-add i) ∙ q) ∙ e))
+end-keeps s d m frames within f e =
+    zero-missed s d (f .0) (m .tables .frames) 0 (m .frames) frames within
+    (λ i t q. true≢false (sym (passes _ t) ∙ ap (λ (n : ℕ). namesIn d ((getD (m .tables .frames) n openFrame) .names)) (sym (zero-add i) ∙ q) ∙ e))

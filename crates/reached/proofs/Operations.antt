@@ -27,14 +27,14 @@ use Rattle.rules.specs.declared.Wear.the-variants.{Dirty}
 use Rattle.rules.specs.declared.Place.{Place}
 use Rattle.rules.specs.declared.Place.the-variants.{Public, Clear, Sealed}
 use Rattle.rules.specs.declared.Named.the-variants.{Nothing}
-use Rattle.rules.proofs.Parts.{length-zeros, length-withPart, part-other}
+use Rattle.rules.proofs.Parts.{length-zeros, length-withPart, part-other, part-fits}
 use Rattle.rules.proofs.PageNumbers.{number-one}
 use Rattle.rules.proofs.Changes.{life-same, place-same, place-kept}
 use Rattle.rules.proofs.Facts.{all}
 use Rattle.reached.proofs.Keeping.{life-sound, activity-changed, saved-sound}
 use Rattle.reached.proofs.Moving.{number-long, place-other, mapping-sound, place-replaced, moved-sound}
 use Rattle.reached.proofs.Passing.{Good, good-kept}
-use Rattle.reached.proofs.Moves.{cloak-zeroes, Within, slot-fits}
+use Rattle.reached.proofs.Moves.{cloak-zeroes, Within, whole-page, slot-fits}
 use Rattle.reached.proofs.Sealing.{Stays, frames-apart, clear-in}
 use Rattle.reached.proofs.Unveiling.{unfilled, Enters, enter-good, enter-holds, enter-stays}
 use Rattle.reached.proofs.Fates.{is-same, kept, zeroed, dropped, Fate, is-kept, is-zeroed, is-dropped, sameNumber}
@@ -136,7 +136,7 @@ module _ (g : Given) (m : Machine) (good : Good g m) where
     uncloak-good-at Public e q = absurd (true≢false q)
     uncloak-good-at (Clear f w) e q =
         let n = good .agrees .named d v f w (hd .domain) (hd .page) e in
-        good-kept g m (after (Clear f w)) good (length-withPart (s .size) (f .0) (zeros (s .size)) (m .frames))
+        good-kept g m (after (Clear f w)) good (length-withPart (s .size) (f .0) _ (m .frames))
         (length-withPart (s .size) (pageNumber s d v) (zeros (s .size)) (m .store))
         (moved-sound s (stateOf m) (good .sizes) (good .sound) d v (hd .domain) (hd .page) f (n .0) lives (λ h c. clear-in f h w _ e c)
         (λ x y r.
@@ -156,11 +156,12 @@ module _ (g : Given) (m : Machine) (good : Good g m) where
         record { place = place-other s (m .tables) d v _ e w ne; frame = λ f z c. refl; slot = dropped-store m refl e w ne; used = omega arith }
     uncloak-stays-at (Clear f y) q e w he ne =
         let n = good .agrees .named d v f y (hd .domain) (hd .page) q in
+        let page = whole-page (s .size) (f .0) (m .frames) (part-fits (s .size) (f .0) (s .frames) (n .0) (good .frames)) in
         record {
           place = place-other s (m .tables) d v _ e w ne;
           frame =
               λ h z c.
-              unfilled s f (n .0) m (good .frames) (zeros (s .size)) (length-zeros (s .size)) h
+              unfilled s f (n .0) m (good .frames) _ (omega arith) h
               (frames-apart s (m .tables) (good .agrees) f d v (n .1) e w he ne h z c);
           slot = dropped-store m refl e w ne;
           used = omega arith;

@@ -28,7 +28,8 @@ module _ (g : Given) (frames store : List ℕ) (asks : List Ask) where
   used-within = run-used g frames store asks
 
   -- No event lets it fall.
-  pub used-never-falls : (a : Ask) → (reached g frames store asks) .tables .used ≤ (answered g (reached g frames store asks) a) .machine .tables .used
+  pub used-never-falls : (a : Ask)
+      → (reached g frames store asks) .tables .used ≤ (answered g (reached g frames store asks) a) .machine .tables .used
   used-never-falls a = (step-used g (a .event) (a .new) (a .buffer) (reached g frames store asks)) .0
 
   -- An event takes at most two signatures.
@@ -37,7 +38,9 @@ module _ (g : Given) (frames store : List ℕ) (asks : List Ask) where
   two-signatures a = (step-used g (a .event) (a .new) (a .buffer) (reached g frames store asks)) .1
 
   -- It tells of at most two seals and one unveil.
-  pub few-told : (a : Ask) → ((answered g (reached g frames store asks) a) .seals ≤ maxSeals) × ((answered g (reached g frames store asks) a) .unveils ≤ 1)
+  pub few-told : (a : Ask)
+      → let o = answered g (reached g frames store asks) a in
+      (o .seals ≤ maxSeals) × (o .unveils ≤ 1)
   few-told a = step-counts g (a .event) (a .new) (a .buffer) (reached g frames store asks)
 
   -- A page that is Clear and clean has the same bytes in its frame and in its slot.

@@ -25,7 +25,8 @@ use Rattle.reached.proofs.Passing.{Good, Enough}
 use Rattle.reached.proofs.Sealing.{Holds, sealed-frame, others-frame, others-names}
 use Rattle.reached.proofs.Seals.{Fits, Room, room-held, room-first, room-rest, first-good, seal-either, seal-none, seal-held}
 use Rattle.reached.proofs.Unveiling.{nothing-page, entered, Enters, enter-holds, enter-frames, enter-names, filled, unfilled}
-use Rattle.reached.proofs.Ending.{ended-frame, ended-names}
+use Rattle.reached.proofs.Ending.{ended-names}
+use Rattle.secrecy.proofs.LetGo.{end-zeroes}
 
 pub record Alike (s : Setup) (m n : Machine) : Type 0 where
   pub tables : m .tables ≡ n .tables
@@ -151,9 +152,9 @@ ended-alike g m n gm gn a d hd =
       unveils = a .unveils;
       bare =
           λ f hf q.
-          ended-frame g m gm d hd f ∙ at f hf (namesIn d (namesOf (m .tables) f)) (sym (ended-names (g .setup) d (m .tables) f) ∙ q)
+          end-zeroes g m gm d hd f ∙ at f hf (namesIn d (namesOf (m .tables) f)) (sym (ended-names (g .setup) d (m .tables) f) ∙ q)
           ∙ ap (λ (t : Tables). cond (namesIn d (namesOf t f)) (zeros (g .setup .size)) (frameBytes (g .setup) f n)) (a .tables)
-          ∙ sym (ended-frame g n gn d hd f);
+          ∙ sym (end-zeroes g n gn d hd f);
     }
   where
     at : (f : Gppn) → f .0 < g .setup .frames → (b : Bool) → cond b Nothing (namesOf (m .tables) f) ≡ Nothing

@@ -1,3 +1,4 @@
+pub mod LetGo
 pub mod Alike
 pub mod Registers
 pub mod Operations

@@ -25,8 +25,9 @@ use Rattle.rules.proofs.Facts.{same-frame}
 use Rattle.rules.specs.declared.Wear.{Wear}
 use Rattle.reached.proofs.Unveiling.{unfilled}
 use Rattle.reached.proofs.Passing.{Good}
-use Rattle.reached.proofs.Moves.{uncloak-zeroes, Within}
+use Rattle.reached.proofs.Moves.{Within}
 use Rattle.reached.proofs.Operations.{cloak-enters}
+use Rattle.secrecy.proofs.LetGo.{uncloak-zeroes}
 use Rattle.secrecy.proofs.Alike.{Alike, tables-alike, saved-alike, slot-alike, enter-alike}
 
 module _ (g : Given) (m n : Machine) (gm : Good g m) (gn : Good g n) (a : Alike (g .setup) m n) where

@@ -19,7 +19,8 @@ use Rattle.rules.specs.declared.TrapKind.{TrapKind}
 use Rattle.rules.specs.declared.TrapKind.the-variants.{Interrupt, Call}
 use Rattle.rules.specs.declared.Named.the-variants.{Nothing}
 use Rattle.rules.specs.declared.Event.{Event}
-use Rattle.rules.specs.declared.Event.the-variants.{Begin, End, Map, Unmap, KernelRead, KernelWrite, Resume, Spawn, Leave, Cloak, Uncloak, Read, Write, Trap}
+use Rattle.rules.specs.declared.Event.the-variants.{Begin, End, Map, Unmap, KernelRead, KernelWrite, Resume}
+use Rattle.rules.specs.declared.Event.the-variants.{Spawn, Leave, Cloak, Uncloak, Read, Write, Trap}
 use Rattle.reached.specs.States.{answered}
 
 -- What is the application's alone, in an event's data

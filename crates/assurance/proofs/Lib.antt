@@ -1,0 +1,4 @@
+pub mod Calls
+pub mod Bytes
+pub mod Telling
+pub mod Assurance
