@@ -15,18 +15,26 @@ abbrev pub Walked : {A : Type 0} → (ℕ → A → Bool) → List A → ℕ →
 Walked test l i = allFrom test 0 l ≡ allFrom test i (drop i l)
 
 module _ {A : Type 0} (test : ℕ → A → Bool) (z : A) (l : List A) where
+  -- what is left from i on is the test of element i, and what is left behind it
+  pub left-turn : (i : ℕ) → i < length l
+      → allFrom test i (drop i l) ≡ test i (getD l i z) && allFrom test (i + 1) (drop (i + 1) l)
+  unfolding allFrom
+  left-turn i h = rw (add-one, drop-cons l i z h)
+
+  pub left-none : (i : ℕ) → length l ≤ i → allFrom test i (drop i l) ≡ true
+  unfolding allFrom
+  left-none i h = ap (allFrom test i) (drop-of-length-le l h)
+
   pub walked-none : Walked test l 0
   walked-none = refl
 
   module _ (i : ℕ) (w : Walked test l i) where
     pub walked-all : length l ≤ i → true ≡ allFrom test 0 l
-    unfolding allFrom
-    walked-all h = sym (w ∙ ap (allFrom test i) (drop-of-length-le l h))
+    walked-all h = sym (w ∙ left-none i h)
 
     module _ (h : i < length l) where
       walked-turn : allFrom test 0 l ≡ test i (getD l i z) && allFrom test (i + 1) (drop (i + 1) l)
-      unfolding allFrom
-      walked-turn = w ∙ rw (add-one, drop-cons l i z h)
+      walked-turn = w ∙ left-turn i h
 
       -- the test of this element, as the loop has it
       module _ {b : Bool} (e : b ≡ test i (getD l i z)) where
@@ -47,3 +55,20 @@ zero-from (x ∷ xs) k = ap (λ (b : Bool). eqb x 0 && b) (zero-from xs (suc k))
 
 pub same-zeros : (l : List ℕ) (n : ℕ) → length l ≡ n → allFrom isZero 0 l ≡ sameBytes l (zeros n)
 same-zeros l n e = zero-from l 0 ∙ ap (λ (k : ℕ). sameBytes l (zeros k)) e
+
+-- A loop that gathers: what it has found so far, and what is left, are the test from start on
+abbrev pub Gathered : {A : Type 0} → (ℕ → A → Bool) → List A → ℕ → Bool → ℕ → Type 0
+Gathered test l start all i = all && allFrom test i (drop i l) ≡ allFrom test start (drop start l)
+
+module _ {A : Type 0} (test : ℕ → A → Bool) (z : A) (l : List A) (start : ℕ) where
+  pub gathered-none : Gathered test l start true start
+  gathered-none = refl
+
+  pub gathered-more : (all b next : Bool) (i : ℕ) → i < length l → b ≡ test i (getD l i z) → next ≡ all && b
+      → Gathered test l start all i → Gathered test l start next (i + 1)
+  gathered-more true b next i h e n w = rw (n, e) (sym (left-turn test z l i h) ∙ w)
+  gathered-more false b next i h e n w = rw n w
+
+  pub gathered-all : (all : Bool) (i : ℕ) → length l ≤ i → Gathered test l start all i → all ≡ allFrom test start (drop start l)
+  gathered-all true i h w = sym (left-none test z l i h) ∙ w
+  gathered-all false i h w = w

@@ -1,13 +1,16 @@
 -- How the tables are gone through: which other record an entry's test goes by, read at a number taken modulo its table's
 -- length, and where in the page table the walk stands. Nothing here says what is sound. Assumes nothing.
 use mathlib.Core.Path.{_≡_}
-use mathlib.Core.Bool.{cond}
+use mathlib.Core.List.{List}
+use mathlib.Core.Bool.{Bool, cond}
 use mathlib.Core.Logic.{_⊎_}
 use Prim.Native.Nat.{ℕ, _+_, _*_, _%_, _≤_, _<_, min}
-use lib.ListN.{length, getD}
+use lib.ListN.{length, getD, drop}
 use lib.Dec.{eqb, ltb}
+use Rattle.rules.specs.Bytes.{allFrom}
 use Rattle.rules.specs.Sizes.{maxDomains, maxPages, maxContexts, maxFrames}
 use Rattle.rules.specs.Records.{emptyDomain, openFrame, publicPage}
+use Rattle.rules.specs.Sound.{untouched}
 use Rattle.rules.specs.declared.Setup.{Setup}
 use Rattle.rules.specs.declared.Tables.{Tables}
 use Rattle.rules.specs.declared.Asid.{Asid}
@@ -77,3 +80,10 @@ abbrev pub nextSpot : Setup → Spot → Spot
 nextSpot s at =
     cond (ltb (at .page + 1) (s .pages)) (record { domain = at .domain; page = at .page + 1 })
     (record { domain = at .domain + 1; page = 0 })
+
+-- the entries from i on are as freshly started
+abbrev pub asFresh : ℕ → PageRecord → Bool
+asFresh i r = untouched r
+
+unfoldable pub untouchedFrom : ℕ → List PageRecord → Bool
+untouchedFrom i pages = allFrom asFresh i (drop i pages)

@@ -157,7 +157,8 @@ fn place_sound(setup: Setup, used: u16, at: Spot, holder: FrameRecord, place: Pl
     }
 }
 
-fn untouched(page: PageRecord) -> bool
+// Whether a page's record is as freshly started.
+pub fn untouched(page: PageRecord) -> bool
     ensures { λ r. ⌜ r ≡ rule.untouched page ⌝ }
 {
     let mapping = page.mapping;

@@ -2,10 +2,13 @@
 // number taken modulo that table's length, and hands the two on; no function that is called for an entry is passed a table.
 ghost use mathlib.Core.Path.{_≡_};
 ghost use Rattle.rules.specs.Bytes.{allFrom};
+ghost use Rattle.entries.specs.Walk.{untouchedFrom};
 ghost use Rattle.rules.specs.Sound.{domainSound, contextSound, savedSound, pageSound, frameSound};
 use entries::ENTRIES;
 use entries::spots;
+use entries::values::both;
 use rules::DomainRecord;
+use rules::PageRecord;
 use rules::Registers;
 use rules::Setup;
 use rules::Tables;
@@ -58,7 +61,22 @@ pub fn saved_sound(setup: Setup, saved: [Registers; Setup::MAX_CONTEXTS]) -> boo
     true
 }
 
-// The entry's domain and page are counted along, so that no entry costs a division.
+// Whether the entries from start on are as freshly started. Every one is looked at: a loop with no way out does several at once.
+fn rest_untouched(pages: [PageRecord; ENTRIES], start: usize) -> bool
+    ensures { λ r. ⌜ r ≡ untouchedFrom start pages ⌝ }
+{
+    let mut all = true;
+    let mut i = start;
+    while i < ENTRIES {
+        let page = pages[i];
+        all = both(all, entries::untouched(page));
+        i += 1;
+    }
+    all
+}
+
+// The entry's domain and page are counted along, so that no entry costs a division. Behind the setup's domains no entry is for a
+// page.
 pub fn pages_sound(setup: Setup, t: Tables) -> bool
     ensures { λ r. ⌜ r ≡ allFrom (pageSound setup t) 0 (t .pages) ⌝ }
 {
@@ -66,6 +84,9 @@ pub fn pages_sound(setup: Setup, t: Tables) -> bool
     let mut at = spots::first_spot(setup);
     let mut i = 0;
     while i < ENTRIES {
+        if setup.domains <= at.domain {
+            return rest_untouched(t.pages, i);
+        }
         let page = t.pages[i];
         let place = page.place;
         let d = at.domain % Setup::MAX_DOMAINS;

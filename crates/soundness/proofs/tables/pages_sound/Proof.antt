@@ -1,13 +1,14 @@
 -- `pages_sound` meets its contract. The loop's invariant: the whole test is that of the entries from i on, and the spot is that
 -- of entry i.
-use mathlib.Core.Path.{refl, sym, ap}
+use mathlib.Core.Path.{refl, sym, ap, _∙_}
 use Prim.Native.Nat.{_≤_, _-_}
 use native.Mathlib.Omega.{arith}
+use lib.ListN.{drop}
 use borrow.Author.Needs.{needs}
 use Rattle.rules.specs.Records.{publicPage}
 use Rattle.rules.specs.Sound.{pageSound}
-use Rattle.entries.specs.Walk.{Stands, holderAt}
-use Rattle.entries.proofs.Stands.{stands-first, stands-next}
+use Rattle.entries.specs.Walk.{Stands, holderAt, untouchedFrom}
+use Rattle.entries.proofs.Stands.{stands-first, stands-next, rest-fresh}
 use Rattle.soundness.proofs.Lengths.{long-tables}
 use Rattle.entries.proofs.Walks.{Walked, walked-none, walked-more, walked-fails, walked-all}
 use Rattle.soundness.proofs.tables.pages_sound.Statement.{statement}
@@ -27,6 +28,19 @@ loop-holds c =
     let s = c .before .args .setup in
     let t = c .before .args .t2 in
     (omega arith, walked-none (pageSound s t) publicPage (t .pages), rw (c .first-spot .ensures) (stands-first s))
+
+rest-untouched-requires : tie.Need-rest-untouched-requires Inv-loop μ-loop
+rest-untouched-requires c κs = search needs
+
+returns : tie.Need-returns Inv-loop μ-loop
+unfolding untouchedFrom
+returns c =
+    let x = c .before .before .before .before .before .before in
+    let s = x .before .before .args .setup in
+    let t = x .before .before .args .t2 in
+    c .rest-untouched .ensures
+    ∙ sym (rest-fresh s t (x .loop .i) (x .loop .at) (drop (x .loop .i) (t .pages)) (x .loop .inv .2) (c .before .before .if1 .taken))
+    ∙ sym (x .loop .inv .1)
 
 mul-page : tie.Need-mul-page Inv-loop μ-loop
 mul-page c = search needs
@@ -49,16 +63,16 @@ element-copy-out-holder c = search needs
 page-sound-requires : tie.Need-page-sound-requires Inv-loop μ-loop
 page-sound-requires c κs = search needs
 
-returns : tie.Need-returns Inv-loop μ-loop
-returns c =
-    let x = c .before .before .before .before .before .before .before .before in
+returns-2 : tie.Need-returns-2 Inv-loop μ-loop
+returns-2 c =
+    let x = c .before .before .before .before .before .before .before .before .before .before .before in
     let s = x .before .before .args .setup in
     let t = x .before .before .args .t2 in
     let long = long-tables t _ (x .before .before .good .1 .0) in
     walked-fails (pageSound s t) publicPage (t .pages) (x .loop .i) (x .loop .inv .1) (omega arith)
     (c .before .page-sound .ensures t (x .loop .i) long (x .loop .inv .2) refl refl
     (ap (holderAt t) (sym (c .before .before .before .frame-at .ensures))))
-    (c .if1 .taken)
+    (c .if2 .taken)
 
 next-spot-requires : tie.Need-next-spot-requires Inv-loop μ-loop
 next-spot-requires c κs = search needs
@@ -71,7 +85,7 @@ loop-less c = search needs
 
 loop-again : tie.Need-loop-again Inv-loop μ-loop
 loop-again c =
-    let x = c .before .before .before .before .before .before .before .before .before in
+    let x = c .before .before .before .before .before .before .before .before .before .before .before .before in
     let s = x .before .before .args .setup in
     let t = x .before .before .args .t2 in
     let long = long-tables t _ (x .before .before .good .1 .0) in (
@@ -79,12 +93,12 @@ loop-again c =
       walked-more (pageSound s t) publicPage (t .pages) (x .loop .i) (x .loop .inv .1) (omega arith)
           (c .before .before .page-sound .ensures t (x .loop .i) long (x .loop .inv .2) refl refl
           (ap (holderAt t) (sym (c .before .before .before .before .frame-at .ensures))))
-          (c .before .if1 .left),
+          (c .before .if2 .left),
       rw (c .next-spot .ensures) (stands-next s (x .loop .i) (x .loop .at) (x .loop .inv .2)),
     )
 
-returns-2 : tie.Need-returns-2 Inv-loop μ-loop
-returns-2 c =
+returns-3 : tie.Need-returns-3 Inv-loop μ-loop
+returns-3 c =
     let x = c .before in
     let s = x .before .before .args .setup in
     let t = x .before .before .args .t2 in
@@ -99,6 +113,8 @@ pages-sound-spec =
     μ-loop
     first-spot-requires
     loop-holds
+    rest-untouched-requires
+    returns
     mul-page
     element-copy-out-page
     element-copy-out-owner
@@ -106,9 +122,9 @@ pages-sound-spec =
     mul-holder
     element-copy-out-holder
     page-sound-requires
-    returns
+    returns-2
     next-spot-requires
     add-i
     loop-less
     loop-again
-    returns-2)
+    returns-3)
