@@ -12,15 +12,20 @@ use Rattle.lines.specs.Lines.{decimalIn, decimal, hex, countsThen, line, refuse
 use Rattle.runner.specs.Opening.{productsFit, openingOf, openingAt}
 use Rattle.runner.specs.Listing.{shown, eventLine, listedAs, listed, listedIn, listedFrom, textOf, linesFrom, startPoint, listingOf, listing}
 
--- the digits 0, 1, 2, 3, 4, 9 and the letter a, with `.` for a space, `-` and the newline
-abbrev exampleListing : List ℕ
+-- what document 01 says that it prints
+abbrev pub exampleListing : List ℕ
 exampleListing =
+    -- 0 0 0 0 0 0 -
     (48 ∷ 32 ∷ 48 ∷ 32 ∷ 48 ∷ 32 ∷ 48 ∷ 32 ∷ 48 ∷ 32 ∷ 48 ∷ 32 ∷ 45 ∷ 10 ∷ [])
+    -- 1 2 0 0 0 0 -
     ++ (49 ∷ 32 ∷ 50 ∷ 32 ∷ 48 ∷ 32 ∷ 48 ∷ 32 ∷ 48 ∷ 32 ∷ 48 ∷ 32 ∷ 45 ∷ 10 ∷ [])
+    -- 2 9 0 0 0 0 -
     ++ (50 ∷ 32 ∷ 57 ∷ 32 ∷ 48 ∷ 32 ∷ 48 ∷ 32 ∷ 48 ∷ 32 ∷ 48 ∷ 32 ∷ 45 ∷ 10 ∷ [])
+    -- 3 4 0 1 0 1 and sixteen a0
     ++ (51 ∷ 32 ∷ 52 ∷ 32 ∷ 48 ∷ 32 ∷ 49 ∷ 32 ∷ 48 ∷ 32 ∷ 49 ∷ 32 ∷ [])
     ++ (97 ∷ 48 ∷ 97 ∷ 48 ∷ 97 ∷ 48 ∷ 97 ∷ 48 ∷ 97 ∷ 48 ∷ 97 ∷ 48 ∷ 97 ∷ 48 ∷ 97 ∷ 48 ∷ [])
     ++ (97 ∷ 48 ∷ 97 ∷ 48 ∷ 97 ∷ 48 ∷ 97 ∷ 48 ∷ 97 ∷ 48 ∷ 97 ∷ 48 ∷ 97 ∷ 48 ∷ 97 ∷ 48 ∷ 10 ∷ [])
+    -- 4 11 0 0 1 1 -
     ++ (52 ∷ 32 ∷ 49 ∷ 49 ∷ 32 ∷ 48 ∷ 32 ∷ 48 ∷ 32 ∷ 49 ∷ 32 ∷ 49 ∷ 32 ∷ 45 ∷ 10 ∷ [])
 
 pub example-listing : listing exampleTrace ≡ exampleListing

@@ -18,12 +18,18 @@ pub record Lines : Type 0 where
   pub text : List ℕ
   pub end : Point
 
+abbrev pub none : Point → Lines
+none p = record { text = []; end = p }
+
+abbrev pub behind : List ℕ → Lines → Lines
+behind line rest = record { text = line ++ rest .text; end = rest .end }
+
+-- of the lines to come, as many as surely fit; p is the point before them
 unfoldable pub fitting : ℕ → Point → List Listed → Lines
-fitting room p [] = record { text = []; end = p }
+fitting room p [] = none p
 fitting room p (l ∷ ls) =
-    let rest = fitting (room - length (l .line)) (l .next) ls in
-    let all = record { text = l .line ++ rest .text; end = rest .end } in
-    cond (leb (lineRoom p) room) all (record { text = []; end = p })
+    let some = behind (l .line) (fitting (room - length (l .line)) (l .next) ls) in
+    cond (leb (lineRoom p) room) some (none p)
 
 -- what filling an output leaves
 pub record Fills : Type 0 where
@@ -43,4 +49,4 @@ unfoldable pub filled : Point → List ℕ → Fills
 filled p out =
     cond (leb (p .run .index) (p .run .place))
     (fills (fitting (length out) p (listedFrom p)) out)
-    (fills (record { text = []; end = p }) out)
+    (fills (none p) out)
