@@ -1,4 +1,4 @@
-// A line of the listing, written over the front of an output: an event's, and that of a record or header which is refused.
+// A line of the listing, written over an output from a place on: an event's, and that of a record or header which is refused.
 // The inner layer under runner: each function asks that there is room, and its callers show it.
 ghost use mathlib.Core.Path.{_≡_};
 ghost use Prim.Native.Nat.{_+_, _*_, _≤_, _<_};
@@ -66,6 +66,7 @@ fn hex(out: &mut [u8], at: usize, bytes: &[u8]) -> usize
 fn last(out: &mut [u8], at: usize, shown: &[u8]) -> usize
     requires { ⌜ at + 2 + 2 * length (now shown) ≤ length (now out) ⌝ }
     ensures { λ r. ⌜ Put at (lastField (now (shown .entry)) ++ (newline ∷ [])) (now (out .entry)) r (now (out .exit)) ⌝ }
+    ensures { λ r. ⌜ r ≤ at + 2 + 2 * length (now (shown .entry)) ⌝ }
 {
     if shown.len() == 0 {
         return pair(out, at, DASH, NEWLINE);
@@ -88,20 +89,29 @@ fn counts(out: &mut [u8], at: usize, answer: Answer) -> usize
 }
 
 // The line of an event: what it shows of its answer's bytes, or nothing.
-pub fn event_line(out: &mut [u8], index: usize, kind: u8, answer: Answer, shown: &[u8]) -> usize
-    requires { ⌜ 128 + 2 * length (now shown) ≤ length (now out) ⌝ }
-    ensures { λ r. ⌜ Put 0 (line index (decimal kind) answer (now (shown .entry))) (now (out .entry)) r (now (out .exit)) ⌝ }
+pub fn event_line(
+    out: &mut [u8],
+    at: usize,
+    index: usize,
+    kind: u8,
+    answer: Answer,
+    shown: &[u8],
+) -> usize
+    requires { ⌜ at + 128 + 2 * length (now shown) ≤ length (now out) ⌝ }
+    ensures { λ r. ⌜ Put at (line index (decimal kind) answer (now (shown .entry))) (now (out .entry)) r (now (out .exit)) ⌝ }
+    ensures { λ r. ⌜ r ≤ at + 128 + 2 * length (now (shown .entry)) ⌝ }
 {
-    let one = number(out, 0, index as u64);
+    let one = number(out, at, index as u64);
     let two = number(out, one, kind as u64);
     let three = counts(out, two, answer);
     last(out, three, shown)
 }
 
 // The line of a record or a header that is refused.
-pub fn refused_line(out: &mut [u8], index: usize, why: u8, used: u16) -> usize
-    requires { ⌜ 128 ≤ length (now out) ⌝ }
-    ensures { λ r. ⌜ Put 0 (refusedLine index why used) (now (out .entry)) r (now (out .exit)) ⌝ }
+pub fn refused_line(out: &mut [u8], at: usize, index: usize, why: u8, used: u16) -> usize
+    requires { ⌜ at + 128 ≤ length (now out) ⌝ }
+    ensures { λ r. ⌜ Put at (refusedLine index why used) (now (out .entry)) r (now (out .exit)) ⌝ }
+    ensures { λ r. ⌜ r ≤ at + 128 ⌝ }
 {
     let answer = Answer {
         number: why,
@@ -109,7 +119,7 @@ pub fn refused_line(out: &mut [u8], index: usize, why: u8, used: u16) -> usize
         unveils: 0,
         used,
     };
-    let one = number(out, 0, index as u64);
+    let one = number(out, at, index as u64);
     let two = pair(out, one, DASH, SPACE);
     let three = counts(out, two, answer);
     pair(out, three, DASH, NEWLINE)

@@ -10,7 +10,7 @@ use Rattle.reading.specs.Reading.{sizesWhole, sizesAt, headerAt, kindIn, hasEve
 use Rattle.trace.specs.Example.{exampleTrace}
 use Rattle.lines.specs.Lines.{decimalIn, decimal, hex, countsThen, line, refusedLine}
 use Rattle.runner.specs.Opening.{productsFit, openingOf, openingAt}
-use Rattle.runner.specs.Listing.{shown, eventLine, listedAs, listed, listedIn, listedFrom, textOf, linesFrom, startPoint, listingOf, listing}
+use Rattle.runner.specs.Listing.{isShown, shown, eventLine, eventListed, listedAs, listed, listedIn, listedFrom, textOf, linesFrom, startPoint, listingOf, listing}
 
 -- what document 01 says that it prints
 abbrev pub exampleListing : List ℕ
@@ -29,5 +29,5 @@ exampleListing =
     ++ (52 ∷ 32 ∷ 49 ∷ 49 ∷ 32 ∷ 48 ∷ 32 ∷ 48 ∷ 32 ∷ 49 ∷ 32 ∷ 49 ∷ 32 ∷ 45 ∷ 10 ∷ [])
 
 pub example-listing : listing exampleTrace ≡ exampleListing
-unfolding computing headerAt sizesAt sizesWhole headerValues readAt kindIn hasEvent recordOf headWhole eventAt dataAt headOf widthsOf valuesAt eventOf decimalIn decimal hex countsThen line refusedLine productsFit openingOf openingAt shown eventLine listedAs listed listedIn listedFrom textOf linesFrom startPoint listingOf listing
+unfolding computing isShown eventListed headerAt sizesAt sizesWhole headerValues readAt kindIn hasEvent recordOf headWhole eventAt dataAt headOf widthsOf valuesAt eventOf decimalIn decimal hex countsThen line refusedLine productsFit openingOf openingAt shown eventLine listedAs listed listedIn listedFrom textOf linesFrom startPoint listingOf listing
 example-listing = refl

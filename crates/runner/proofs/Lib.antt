@@ -1,1 +1,4 @@
 pub mod Example
+pub mod Steps
+pub mod Showing
+pub mod Openings

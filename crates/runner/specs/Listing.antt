@@ -7,7 +7,7 @@ use lib.ListN.{length, drop}
 use lib.Dec.{eqb, ltb}
 use Rattle.rules.specs.Bytes.{zeros}
 use Rattle.rules.specs.Records.{given, machine, stateOf}
-use Rattle.rules.specs.Events.{kindOf}
+use Rattle.rules.specs.Events.{kindOf, answerLength}
 use Rattle.rules.specs.Answers.{Outcome, step, start}
 use Rattle.rules.specs.declared.Setup.{Setup}
 use Rattle.rules.specs.declared.State.{State}
@@ -53,12 +53,19 @@ pub record Listed : Type 0 where
   pub line : List ℕ
   pub next : Point
 
--- the answer of kinds 4 and 13, when done
-abbrev pub showsAnswer : ℕ → Bool
-showsAnswer kind = eqb kind 4 || eqb kind 13
+-- the answer of kinds 4 and 13 is shown, when done
+abbrev pub showsAnswer : Event → Bool
+showsAnswer e = eqb (kindOf e) 4 || eqb (kindOf e) 13
+
+unfoldable pub isShown : Event → ℕ → Bool
+isShown e number = showsAnswer e && eqb number 0
 
 unfoldable pub shown : Event → Outcome → List ℕ
-shown e o = cond (eqb (o .number) 0 && showsAnswer (kindOf e)) (o .bytes) []
+shown e o = cond (isShown e (o .number)) (o .bytes) []
+
+-- how many bytes of the answer buffer that is
+unfoldable pub shownLength : Event → ℕ → ℕ
+shownLength e number = cond (isShown e number) (answerLength e) 0
 
 unfoldable pub eventLine : ℕ → Event → Outcome → List ℕ
 eventLine index e o = line index (decimal (kindOf e)) (leaves o .answer) (shown e o)
@@ -78,14 +85,18 @@ abbrev pub outcomeAt : Point → Event → List ℕ → Outcome
 outcomeAt p e new =
     step (given (p .run .setup) (supplyOf (p .trace))) e new (p .buffer) (machine (p .run .state) (p .frames) (p .store))
 
+unfoldable pub eventListed : Point → Event → ℕ → List ℕ → Listed
+eventListed p e next new =
+    let o = outcomeAt p e new in
+    record { line = eventLine (p .run .index) e o; next = behind p next (leaves o) }
+
 -- a record is an event; one that is refused ends the list
 unfoldable pub listedAs : Point → Found → Listed
 listedAs p End = record { line = []; next = ended p }
 listedAs p (Refused n) =
     record { line = refusedLine (p .run .index) n (p .run .state .tables .used); next = ended p }
 listedAs p (Record e start len next) =
-    let o = outcomeAt p e (dataIn (Record e start len next) (unread p)) in
-    record { line = eventLine (p .run .index) e o; next = behind p next (leaves o) }
+    eventListed p e next (dataIn (Record e start len next) (unread p))
 
 unfoldable pub listed : Point → Listed
 listed p = listedAs p (readAt first (unread p) (p .run .place))

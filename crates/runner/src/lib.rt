@@ -1,4 +1,19 @@
 // The listing of a trace, as document 01 has trace-run print it: the header's checks, the start, and an output filled with lines.
+ghost use mathlib.Core.Path.{_≡_};
+ghost use mathlib.Core.List.{[], _∷_};
+ghost use Prim.Native.Nat.{_+_, _*_, _≤_, _<_};
+ghost use lib.ListN.{length};
+ghost use lib.Dec.{leb, ltb};
+ghost use Rattle.rules.specs.Bytes.{allOf};
+ghost use Rattle.form.specs.Bounds.{InRange};
+ghost use Rattle.reading.specs.Reading.{readAt};
+ghost use Rattle.runner.specs.Opening.{productsFit, openingAt};
+ghost use Rattle.runner.specs.Listing.{point, listed, listedAs, shownLength, startPoint};
+ghost use Rattle.runner.specs.Filling.{left, turns, filled, Ready, refusalWrote, wrote as wroteOver};
+use reading::Found;
+use reading::Header;
+use rules::Answer;
+use rules::Event;
 use rules::Setup;
 use rules::State;
 
@@ -11,8 +26,80 @@ pub struct Run {
     pub index: usize,
 }
 
-// A run after some lines, and how many bytes those take.
+// A run behind some lines, and how many bytes of the output those take.
 pub struct Filled {
     pub run: Run,
     pub count: usize,
+}
+
+// A trace is at most so many bytes long, and so are the frames and the store.
+const LIMIT: usize = 16384;
+
+// Room for a line without the answer's bytes.
+const LINE: usize = 128;
+
+fn products_fit(setup: Setup) -> bool
+    requires { ⌜ InRange setup ⌝ }
+    ensures { λ r. ⌜ r ≡ productsFit setup ⌝ }
+{
+    if LIMIT < setup.frames * setup.size {
+        return false;
+    }
+    setup.domains * setup.pages * setup.size <= LIMIT
+}
+
+// The setup and the place of the first record, where trace-run takes the trace; or the number that its header is refused with.
+pub fn opening(trace: &[u8]) -> Header
+    ensures { λ r. ⌜ r ≡ openingAt (now (trace .entry)) ⌝ }
+{
+    if LIMIT < trace.len() {
+        return Header::Refused(Answer::NOT_ACCEPTABLE);
+    }
+    match reading::read_sizes(trace) {
+        Header::Sizes(setup, _) => {
+            if products_fit(setup) {
+                return reading::read_header(trace);
+            }
+            Header::Refused(Answer::NOT_ACCEPTABLE)
+        }
+        Header::Refused(number) => Header::Refused(number),
+    }
+}
+
+// The line of a refused header, over the front of out; nothing where out is shorter than a line may be. How many bytes it takes.
+pub fn refusal(number: u8, out: &mut [u8]) -> usize
+    ensures { λ r. ⌜ record { count = r; out = now (out .exit) } ≡ refusalWrote number (now (out .entry)) ⌝ }
+{
+    if out.len() < LINE {
+        return 0;
+    }
+    lines::refused_line(out, 0, 0, number, 0)
+}
+
+// The run before the record at a place: the monitor is started over the lent frames and store.
+pub fn start(trace: &[u8], setup: Setup, place: usize, frames: &mut [u8], store: &mut [u8]) -> Run
+    ensures { λ r. ⌜ point (now (trace .entry)) r (now (frames .exit)) (now (store .exit)) [] ≡ startPoint (now (trace .entry)) setup place (now (frames .entry)) (now (store .entry)) [] ⌝ }
+{
+    let begun = monitor::start(setup, frames, store, reading::supply(trace));
+    let state = begun.state;
+    Run {
+        setup,
+        state,
+        place,
+        index: 0,
+    }
+}
+
+// How many bytes of the answer a line shows.
+fn shown_length(event: Event, number: u8) -> usize
+    ensures { λ r. ⌜ r ≡ shownLength event number ⌝ }
+{
+    if number != Answer::DONE {
+        return 0;
+    }
+    match event {
+        Event::KernelRead(_, span) => span.len,
+        Event::Trap(_, _, _) => 64,
+        _ => 0,
+    }
 }

@@ -1,4 +1,5 @@
 -- `lines::event_line` meets its contract.
+use native.Mathlib.Omega.{arith}
 use Rattle.lines.specs.Lines.{decimal, line}
 use Rattle.lines.proofs.Puts.{field-then, counts-then}
 use borrow.Author.Needs.{needs}
@@ -24,7 +25,7 @@ returns : tie.Need-returns
 unfolding line
 returns c =
     let a = c .before .before .before .before .before .before .before .before .before .before .before .before .before .before .before .before .before .before .args in
-    field-then (decimal (a .index)) (c .before .before .before .before .before .before .before .before .before .before .before .before .before .before .number .ensures .0) (field-then (decimal (a .kind)) (c .before .before .before .before .before .before .before .before .before .before .number2 .ensures .0) (counts-then (a .answer) (c .before .before .before .before .before .before .counts .ensures .0) (c .before .before .last .ensures)))
+    (field-then (decimal (a .index)) (c .before .before .before .before .before .before .before .before .before .before .before .before .before .before .number .ensures .0) (field-then (decimal (a .kind)) (c .before .before .before .before .before .before .before .before .before .before .number2 .ensures .0) (counts-then (a .answer) (c .before .before .before .before .before .before .counts .ensures .0) (c .before .before .last .ensures .0))), omega (arith, c .before .before .before .before .before .before .before .before .before .before .before .before .before .before .number .ensures .1, c .before .before .before .before .before .before .before .before .before .before .number2 .ensures .1, c .before .before .before .before .before .before .counts .ensures .1, c .before .before .last .ensures .1))
 
 pub event-line-spec : {M : Type 1} → statement M
 event-line-spec =

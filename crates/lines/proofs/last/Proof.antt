@@ -19,7 +19,7 @@ same-length c = search needs
 returns : tie.Need-returns
 returns c =
     let a = c .before .before .before .before .before .before .before .args in
-    subst (λ (l : List ℕ). Put (a .at) (l ++ (newline ∷ [])) (a .out .now) (c .before .before .pair .result) (c .before .before .pair .last .0)) (last-none (a .shown .now) (c .before .before .before .before .if1 .taken)) (c .before .before .pair .ensures)
+    (subst (λ (l : List ℕ). Put (a .at) (l ++ (newline ∷ [])) (a .out .now) (c .before .before .pair .result) (c .before .before .pair .last .0)) (last-none (a .shown .now) (c .before .before .before .before .if1 .taken)) (c .before .before .pair .ensures), omega (arith, c .before .before .pair .ensures .ends))
 
 hex-requires : tie.Need-hex-requires
 hex-requires c κs = search needs
@@ -38,7 +38,7 @@ returns-2 c =
     let a = c .before .before .before .before .before .before .before .args in
     let h = c .before .before .hex in
     let whole = put-then (h .ensures) (put-one (h .result) newline (h .last .0)) in
-    subst (λ (l : List ℕ). Put (a .at) (l ++ (newline ∷ [])) (a .out .now) (h .result + 1) (set (h .last .0) (h .result) newline)) (last-some (a .shown .now) (c .before .before .before .before .if1 .left)) whole
+    (subst (λ (l : List ℕ). Put (a .at) (l ++ (newline ∷ [])) (a .out .now) (h .result + 1) (set (h .last .0) (h .result) newline)) (last-some (a .shown .now) (c .before .before .before .before .if1 .left)) whole, omega (arith, h .ensures .ends, length-hex (a .shown .now)))
 
 pub last-spec : {M : Type 1} → statement M
 last-spec =

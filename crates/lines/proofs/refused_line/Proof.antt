@@ -1,4 +1,5 @@
 -- `lines::refused_line` meets its contract.
+use native.Mathlib.Omega.{arith}
 use Rattle.lines.specs.Lines.{dash, decimal, line, refusedLine}
 use Rattle.lines.proofs.Puts.{field-then, counts-then}
 use borrow.Author.Needs.{needs}
@@ -24,7 +25,7 @@ returns : tie.Need-returns
 unfolding refusedLine line
 returns c =
     let a = c .before .before .before .before .before .before .before .before .before .before .before .before .before .before .before .before .before .args in
-    field-then (decimal (a .index)) (c .before .before .before .before .before .before .before .before .before .before .before .before .before .before .number .ensures .0) (field-then dash (c .before .before .before .before .before .before .before .before .before .before .pair .ensures) (counts-then _ (c .before .before .before .before .before .before .counts .ensures .0) (c .before .before .pair2 .ensures)))
+    (field-then (decimal (a .index)) (c .before .before .before .before .before .before .before .before .before .before .before .before .before .before .number .ensures .0) (field-then dash (c .before .before .before .before .before .before .before .before .before .before .pair .ensures) (counts-then _ (c .before .before .before .before .before .before .counts .ensures .0) (c .before .before .pair2 .ensures))), omega (arith, c .before .before .before .before .before .before .before .before .before .before .before .before .before .before .number .ensures .1, c .before .before .before .before .before .before .before .before .before .before .pair .ensures .ends, c .before .before .before .before .before .before .counts .ensures .1, c .before .before .pair2 .ensures .ends))
 
 pub refused-line-spec : {M : Type 1} → statement M
 refused-line-spec =
