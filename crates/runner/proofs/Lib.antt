@@ -2,3 +2,4 @@ pub mod Example
 pub mod Steps
 pub mod Showing
 pub mod Openings
+pub mod Turns

@@ -180,7 +180,7 @@ module _ (setup : Setup) (state : State) (frames store supply new buffer : List 
   gives (Write c v x) s none = absurd (not-shown s)
   gives (Trap c k mask) s none = refl
 
-  length-buffer : (e : Event) → length (o e .buffer) ≡ length buffer
+  pub length-buffer : (e : Event) → length (o e .buffer) ≡ length buffer
   unfolding step stepFrom outset refused performed
   length-buffer e = go (eqb (n e) 0)
     where

@@ -8,7 +8,7 @@ ghost use Rattle.rules.specs.Bytes.{allOf};
 ghost use Rattle.form.specs.Bounds.{InRange};
 ghost use Rattle.reading.specs.Reading.{readAt};
 ghost use Rattle.runner.specs.Opening.{productsFit, openingAt};
-ghost use Rattle.runner.specs.Listing.{point, listed, listedAs, shownLength, startPoint};
+ghost use Rattle.runner.specs.Listing.{point, listed, listedAs, eventListed, shownLength, startPoint};
 ghost use Rattle.runner.specs.Filling.{left, turns, filled, Ready, refusalWrote, wrote as wroteOver};
 use reading::Found;
 use reading::Header;
@@ -102,4 +102,38 @@ fn shown_length(event: Event, number: u8) -> usize
         Event::Trap(_, _, _) => 64,
         _ => 0,
     }
+}
+
+// An event's line over out from at on; the run behind its record, which ends at next, and the place behind the line.
+fn event_turn(
+    run: Run,
+    next: usize,
+    event: Event,
+    data: &[u8],
+    trace: &[u8],
+    frames: &mut [u8],
+    store: &mut [u8],
+    answer: &mut [u8],
+    out: &mut [u8],
+    at: usize,
+) -> Filled
+    requires { ⌜ (run .index < next) × (at + 128 + 2 * length (now answer) ≤ length (now out)) ⌝ }
+    ensures { λ r. ⌜ left r (now (trace .entry)) (now (frames .exit)) (now (store .exit)) (now (answer .exit)) (now (out .exit)) ≡ turns at (eventListed (point (now (trace .entry)) run (now (frames .entry)) (now (store .entry)) (now (answer .entry))) event next (now («data» .entry))) (now (out .entry)) ⌝ }
+    ensures { λ r. ⌜ r .count ≤ at + 128 + 2 * length (now (answer .entry)) ⌝ }
+{
+    let setup = run.setup;
+    let state = run.state;
+    let supply = reading::supply(trace);
+    let stepped = monitor::step(setup, state, frames, store, supply, event, data, answer);
+    let told = stepped.answer;
+    let shown = shown_length(event, told.number);
+    let count = lines::event_line(out, at, run.index, event.kind(), told, &answer[..shown]);
+    let after = stepped.state;
+    let behind = Run {
+        setup,
+        state: after,
+        place: next,
+        index: run.index + 1,
+    };
+    Filled { run: behind, count }
 }
