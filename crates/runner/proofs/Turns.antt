@@ -1,17 +1,29 @@
 -- One turn: what the monitor and the line's writer leave is the listing's next line and the point behind it. Assumes nothing.
 use mathlib.Core.Path.{_≡_, refl, sym, ap, _∙_}
 use mathlib.Core.List.{List}
-use Prim.Native.Nat.{ℕ, _+_, _≤_}
-use lib.ListN.{length, take}
-use lib.Seq.{length-take-le}
+use Prim.Native.Nat.{ℕ, _+_, _-_, _≤_, _<_}
+use native.Mathlib.Nat.{add-zero, le-of-eq}
+use native.Mathlib.Omega.{arith}
+use lib.ListN.{length, take, length-drop}
+use lib.Seq.{length-take-le, take-all}
+use Rattle.rules.specs.Bytes.{overlay}
 use Rattle.rules.specs.Events.{kindOf}
 use Rattle.rules.specs.declared.Event.{Event}
+use Rattle.form.specs.Form.{first}
+use Rattle.reading.specs.Reading.{readAt, dataIn}
+use Rattle.reading.specs.declared.Found.{Found}
+use Rattle.reading.specs.declared.Found.the-variants.{End, Refused, Record}
+use Rattle.trace.proofs.Records.{stands, takes-a-byte}
+use Rattle.trace.proofs.Wholes.{first-right}
 use Rattle.stepping.specs.Left.{Left, leaves, stepped}
-use Rattle.lines.specs.Lines.{decimal, line, Put}
-use Rattle.runner.specs.Listing.{Point, point, supplyOf, shown, shownLength, eventLine, behind, outcomeAt, eventListed}
+use Rattle.lines.specs.Lines.{decimal, line, refusedLine, Put}
+use Rattle.runner.specs.Listing.{Point, Listed, point, supplyOf, unread, shown, shownLength, eventLine, behind, endedRun, ended, outcomeAt, eventListed, listedAs, listed}
 use Rattle.runner.specs.Filling.{Fills, turns}
 use Rattle.runner.specs.declared.Run.{Run}
 use Rattle.runner.proofs.Showing.{shown-fits, shown-front, length-buffer}
+
+abbrev fillsAt : ℕ → Point → List ℕ → Fills
+fillsAt k p out = record { count = k; end = p; out = out }
 
 -- an event, where l is what the monitor leaves, and n bytes of its answer buffer are shown
 module _ (trace : List ℕ) (run : Run) (frames store buffer : List ℕ) (e : Event) (next : ℕ) (new supply : List ℕ) {l : Left} {n : ℕ}
@@ -44,3 +56,43 @@ module _ (trace : List ℕ) (run : Run) (frames store buffer : List ℕ) (e : Ev
       → record { count = r; end = behind p next l; out = after } ≡ turns at (eventListed p e next new) out
   unfolding eventListed
   event-turns kind put = rw (put .ends, put .bytes, kind, same-line, left-by)
+
+-- what the reader finds at the run's place: the code hands it all that is behind that place
+module _ (p : Point) {found : Found} (finds : found ≡ readAt first (take (length (p .trace) - p .run .place) (unread p)) (p .run .place)) where
+  to-end : take (length (p .trace) - p .run .place) (unread p) ≡ unread p
+  to-end = take-all (length (p .trace) - p .run .place) (unread p) (le-of-eq (length-drop (p .run .place) (p .trace)))
+
+  is : found ≡ readAt first (unread p) (p .run .place)
+  is = finds ∙ ap (λ (u : List ℕ). readAt first u (p .run .place)) to-end
+
+  as-listed : {x : Found} → found ≡ x → listedAs p x ≡ listed p
+  unfolding listed
+  as-listed e = ap (listedAs p) (sym e ∙ is)
+
+  module _ {e : Event} {start len next : ℕ} (r : found ≡ Record e start len next) where
+    pub record-turns : (at : ℕ) (out : List ℕ) {new : List ℕ} → new ≡ dataIn (Record e start len next) (take (length (p .trace) - p .run .place) (unread p))
+        → turns at (eventListed p e next new) out ≡ turns at (listed p) out
+    unfolding listedAs
+    record-turns at out {new} d =
+        let brings : new ≡ dataIn (Record e start len next) (unread p) =
+        d ∙ ap (dataIn (Record e start len next)) to-end in
+        ap (λ (l : Listed). turns at l out) (ap (eventListed p e next) brings ∙ as-listed r)
+
+    pub record-further : p .run .index ≤ p .run .place → p .run .index < next
+    record-further c =
+        let st = stands e start len next first (unread p) (p .run .place) (sym is ∙ r) in
+        omega (arith, st .next-at, takes-a-byte first first-right (unread p) (p .run .place) e start len next st)
+
+  module _ (at : ℕ) (out : List ℕ) {last : Run} (ends : last ≡ endedRun (p .run) (length (p .trace))) where
+    pub refused-turns : {n r : ℕ} {after : List ℕ} → found ≡ Refused n
+        → Put at (refusedLine (p .run .index) n (p .run .state .tables .used)) out r after
+        → record { count = r; end = point (p .trace) last (p .frames) (p .store) (p .buffer); out = after } ≡ turns at (listed p) out
+    unfolding listedAs
+    refused-turns e put = rw (put .ends, put .bytes, ends) (ap (λ (l : Listed). turns at l out) (as-listed e))
+
+    pub end-turns : found ≡ End
+        → record { count = at; end = point (p .trace) last (p .frames) (p .store) (p .buffer); out = out } ≡ turns at (listed p) out
+    unfolding listedAs overlay
+    end-turns e =
+        let none : at ≡ at + 0 = sym (add-zero at) in
+        rw ends (ap (λ (k : ℕ). fillsAt k (ended p) out) none ∙ ap (λ (l : Listed). turns at l out) (as-listed e))

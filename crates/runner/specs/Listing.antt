@@ -76,10 +76,11 @@ behind p next l =
     point (p .trace) (runAt (p .run .setup) (l .state) next (p .run .index + 1)) (l .frames) (l .store) (l .buffer)
 
 -- at the trace's end, nothing else changed
+abbrev pub endedRun : Run → ℕ → Run
+endedRun run end = runAt (run .setup) (run .state) end (run .index)
+
 abbrev pub ended : Point → Point
-ended p =
-    point (p .trace) (runAt (p .run .setup) (p .run .state) (length (p .trace)) (p .run .index)) (p .frames) (p .store)
-    (p .buffer)
+ended p = point (p .trace) (endedRun (p .run) (length (p .trace))) (p .frames) (p .store) (p .buffer)
 
 abbrev pub outcomeAt : Point → Event → List ℕ → Outcome
 outcomeAt p e new =

@@ -8,7 +8,7 @@ ghost use Rattle.rules.specs.Bytes.{allOf};
 ghost use Rattle.form.specs.Bounds.{InRange};
 ghost use Rattle.reading.specs.Reading.{readAt};
 ghost use Rattle.runner.specs.Opening.{productsFit, openingAt};
-ghost use Rattle.runner.specs.Listing.{point, listed, listedAs, eventListed, shownLength, startPoint};
+ghost use Rattle.runner.specs.Listing.{point, endedRun, listed, listedAs, eventListed, shownLength, startPoint};
 ghost use Rattle.runner.specs.Filling.{left, turns, filled, Ready, refusalWrote, wrote as wroteOver};
 use reading::Found;
 use reading::Header;
@@ -136,4 +136,72 @@ fn event_turn(
         index: run.index + 1,
     };
     Filled { run: behind, count }
+}
+
+// The run at the trace's end.
+fn ended(run: Run, end: usize) -> Run
+    ensures { λ r. ⌜ r ≡ endedRun run end ⌝ }
+{
+    let setup = run.setup;
+    let state = run.state;
+    Run {
+        setup,
+        state,
+        place: end,
+        index: run.index,
+    }
+}
+
+// The line of what stands at the run's place, over out from at on; the run behind it, and the place behind the line.
+fn turn(
+    run: Run,
+    trace: &[u8],
+    frames: &mut [u8],
+    store: &mut [u8],
+    answer: &mut [u8],
+    out: &mut [u8],
+    at: usize,
+) -> Filled
+    requires { ⌜ Ready (now trace) run (length (now answer)) (length (now out)) at ⌝ }
+    ensures { λ r. ⌜ left r (now (trace .entry)) (now (frames .exit)) (now (store .exit)) (now (answer .exit)) (now (out .exit)) ≡ turns at (listed (point (now (trace .entry)) run (now (frames .entry)) (now (store .entry)) (now (answer .entry)))) (now (out .entry)) ⌝ }
+    ensures { λ r. ⌜ r .count ≤ at + 128 + 2 * length (now (answer .entry)) ⌝ }
+{
+    let place = run.place;
+    let unread = &trace[place..];
+    let found = reading::record_at(unread, place);
+    match found {
+        Found::Record {
+            event,
+            start: _,
+            len: _,
+            next,
+        } => {
+            let data = reading::data_of(unread, found);
+            event_turn(
+                run,
+                next,
+                event,
+                data,
+                trace,
+                frames,
+                store,
+                answer,
+                out,
+                at,
+            )
+        }
+        Found::Refused(number) => {
+            let used = run.state.tables.used;
+            let count = lines::refused_line(out, at, run.index, number, used);
+            let last = ended(run, trace.len());
+            Filled { run: last, count }
+        }
+        Found::End => {
+            let last = ended(run, trace.len());
+            Filled {
+                run: last,
+                count: at,
+            }
+        }
+    }
 }
