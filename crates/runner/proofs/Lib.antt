@@ -3,3 +3,4 @@ pub mod Steps
 pub mod Showing
 pub mod Openings
 pub mod Turns
+pub mod Fillings

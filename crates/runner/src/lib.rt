@@ -205,3 +205,40 @@ fn turn(
         }
     }
 }
+
+// Whether a line is to follow: bytes of the trace are left, and the longest line fits.
+fn goes_on(place: usize, end: usize, room: usize, answer: usize) -> bool
+    ensures { λ r. ⌜ r ≡ allOf (ltb place end ∷ leb (128 + 2 * answer) room ∷ []) ⌝ }
+{
+    if end <= place {
+        return false;
+    }
+    if room < LINE {
+        return false;
+    }
+    answer <= (room - LINE) / 2
+}
+
+// Fills out with whole lines, as many as surely fit. The run behind them, and how many bytes they take.
+pub fn fill(
+    run: Run,
+    trace: &[u8],
+    frames: &mut [u8],
+    store: &mut [u8],
+    answer: &mut [u8],
+    out: &mut [u8],
+) -> Filled
+    ensures { λ r. ⌜ left r (now (trace .entry)) (now (frames .exit)) (now (store .exit)) (now (answer .exit)) (now (out .exit)) ≡ filled (point (now (trace .entry)) run (now (frames .entry)) (now (store .entry)) (now (answer .entry))) (now (out .entry)) ⌝ }
+{
+    let mut after = run;
+    let mut count: usize = 0;
+    if run.place < run.index {
+        return Filled { run, count };
+    }
+    while goes_on(after.place, trace.len(), out.len() - count, answer.len()) {
+        let next = turn(after, trace, frames, store, answer, out, count);
+        after = next.run;
+        count = next.count;
+    }
+    Filled { run: after, count }
+}

@@ -1,71 +1,52 @@
+-- `runner::event_turn` meets its contract.
 use native.Mathlib.Omega.{arith}
 use Rattle.runner.proofs.Turns.{long-buffer, shown-in, shown-long, event-turns}
 use borrow.Author.Needs.{needs}
 use Rattle.runner.proofs.event_turn.Statement.{statement}
 use Rattle.runner.proofs.event_turn.Tie as tie
-use Rattle.runner.proofs.event_turn.Reads as reads
-use Rattle.runner.proofs.event_turn.Lts as lts
-use Rattle.lines.proofs.event_line.Reads as event-line-reads
-use Rattle.monitor.proofs.step.Reads as step-reads
-use Rattle.reading.proofs.supply.Reads as supply-reads
-use Rattle.rules.proofs.Event.kind.Reads as kind-reads
-use Rattle.runner.proofs.shown_length.Reads as shown-length-reads
 
--- src/lib.rt:126:9
 supply-requires : tie.Need-supply-requires
 supply-requires c κs = search needs
 
--- src/lib.rt:127:9
 step-requires : tie.Need-step-requires
 step-requires c κs = search needs
 
--- src/lib.rt:129:9
 shown-length-requires : tie.Need-shown-length-requires
 shown-length-requires c κs = search needs
 
--- src/lib.rt:130:55
 kind-requires : tie.Need-kind-requires
 kind-requires c κs = search needs
 
--- src/lib.rt:130:75
 slice-reshare-prefix-event-line : tie.Need-slice-reshare-prefix-event-line
 slice-reshare-prefix-event-line c =
     let a = c .before .before .before .before .before .before .before .before .before .before .before .before .before .before .before .before .before .before .before .before .before .before .before .args in
     shown-in (a .trace .now) (a .run) (a .frames .now) (a .store .now) (a .answer .now) (a .event) (a .next) (a .«data» .now) _ (c .before .before .before .before .before .before .before .before .before .before .before .before .before .before .supply .ensures) (c .before .before .before .before .before .before .before .before .before .before .step .ensures) (c .before .before .shown-length .ensures)
 
--- src/lib.rt:130:75
 slice-aggregate-event-line : tie.Need-slice-aggregate-event-line
 slice-aggregate-event-line c =
     let a = c .before .before .before .before .before .before .before .before .before .before .before .before .before .before .before .before .before .before .before .before .before .before .before .before .args in
     shown-long (a .trace .now) (a .run) (a .frames .now) (a .store .now) (a .answer .now) (a .event) (a .next) (a .«data» .now) _ (c .before .before .before .before .before .before .before .before .before .before .before .before .before .before .before .supply .ensures) (c .before .before .before .before .before .before .before .before .before .before .before .step .ensures) (c .before .before .before .shown-length .ensures)
 
--- src/lib.rt:130:9
 event-line-requires : tie.Need-event-line-requires
 event-line-requires c κs =
     let a = c .before .before .before .before .before .before .before .before .before .before .before .before .before .before .before .before .before .before .before .before .before .before .before .before .args in
     omega (arith, c .before .before .before .before .before .before .before .before .before .before .before .before .before .before .before .before .before .before .before .before .before .before .before .before .pre .1, shown-in (a .trace .now) (a .run) (a .frames .now) (a .store .now) (a .answer .now) (a .event) (a .next) (a .«data» .now) _ (c .before .before .before .before .before .before .before .before .before .before .before .before .before .before .before .supply .ensures) (c .before .before .before .before .before .before .before .before .before .before .before .step .ensures) (c .before .before .before .shown-length .ensures), shown-long (a .trace .now) (a .run) (a .frames .now) (a .store .now) (a .answer .now) (a .event) (a .next) (a .«data» .now) _ (c .before .before .before .before .before .before .before .before .before .before .before .before .before .before .before .supply .ensures) (c .before .before .before .before .before .before .before .before .before .before .before .step .ensures) (c .before .before .before .shown-length .ensures), long-buffer (a .trace .now) (a .run) (a .frames .now) (a .store .now) (a .answer .now) (a .event) (a .next) (a .«data» .now) _ (c .before .before .before .before .before .before .before .before .before .before .before .before .before .before .before .supply .ensures) (c .before .before .before .before .before .before .before .before .before .before .before .step .ensures) (c .before .before .before .shown-length .ensures))
 
--- src/lib.rt:136:16
 add-t31 : tie.Need-add-t31
 add-t31 c = omega (arith, c .before .before .before .before .before .before .before .before .before .before .before .before .before .before .before .before .before .before .before .before .before .before .before .before .before .before .before .before .before .pre .0, c .before .before .before .before .before .before .before .before .before .before .before .before .before .before .before .before .before .before .before .before .before .before .before .before .before .before .before .before .before .fits .next)
 
--- src/lib.rt:108:1
 same-length : tie.Need-same-length
 same-length c = search needs
 
--- src/lib.rt:108:1
 same-length-2 : tie.Need-same-length-2
 same-length-2 c = search needs
 
--- src/lib.rt:108:1
 same-length-3 : tie.Need-same-length-3
 same-length-3 c = search needs
 
--- src/lib.rt:108:1
 same-length-4 : tie.Need-same-length-4
 same-length-4 c = search needs
 
--- src/lib.rt:108:1
 returns : tie.Need-returns
 returns c =
     let a = c .before .before .before .before .before .before .before .before .before .before .before .before .before .before .before .before .before .before .before .before .before .before .before .before .before .before .before .before .before .args in (

@@ -1,47 +1,34 @@
+-- `runner::opening` meets its contract.
 use mathlib.Core.Path.{_∙_}
 use Rattle.runner.proofs.Openings.{too-long, setup-read, products-fit, products-not, sizes-refused}
 use borrow.Author.Needs.{needs}
 use Rattle.runner.proofs.opening.Statement.{statement}
 use Rattle.runner.proofs.opening.Tie as tie
-use Rattle.runner.proofs.opening.Reads as reads
-use Rattle.runner.proofs.opening.Lts as lts
-use Rattle.reading.proofs.read_header.Reads as read-header-reads
-use Rattle.reading.proofs.read_sizes.Reads as read-sizes-reads
-use Rattle.runner.proofs.products_fit.Reads as products-fit-reads
 
--- src/lib.rt:56:9
 returns : tie.Need-returns
 returns c = too-long (c .before .before .args .trace .now) (c .if1 .taken)
 
--- src/lib.rt:58:11
 read-sizes-requires : tie.Need-read-sizes-requires
 read-sizes-requires c κs = search needs
 
--- src/lib.rt:59:23
 enum-known-setup : tie.Need-enum-known-setup
 enum-known-setup c = search needs
 
--- src/lib.rt:60:16
 products-fit-requires : tie.Need-products-fit-requires
 products-fit-requires c κs = setup-read (c .before .before .before .before .before .before .args .trace .now) (c .before .before .before .before .if1 .left) (c .before .before .before .read-sizes .ensures) (c .before .setup .given .1)
 
--- src/lib.rt:61:17
 read-header-requires : tie.Need-read-header-requires
 read-header-requires c κs = search needs
 
--- src/lib.rt:61:17
 returns-2 : tie.Need-returns-2
 returns-2 c = c .read-header .ensures ∙ products-fit (c .before .before .before .before .before .before .before .before .before .args .trace .now) (c .before .before .before .before .before .before .before .if1 .left) (c .before .before .before .before .before .before .read-sizes .ensures) (c .before .before .before .before .setup .given .1) (c .before .before .products-fit .ensures) (c .before .if2 .taken)
 
--- src/lib.rt:65:25
 enum-known-number : tie.Need-enum-known-number
 enum-known-number c = search needs
 
--- src/lib.rt:52:1
 returns-3 : tie.Need-returns-3
 returns-3 c = products-not (c .before .before .before .before .before .before .before .before .args .trace .now) (c .before .before .before .before .before .before .if1 .left) (c .before .before .before .before .before .read-sizes .ensures) (c .before .before .before .setup .given .1) (c .before .products-fit .ensures) (c .if2 .left)
 
--- src/lib.rt:52:1
 returns-4 : tie.Need-returns-4
 returns-4 c = sizes-refused (c .before .before .before .before .before .before .args .trace .now) (c .before .before .before .before .if1 .left) (c .before .before .before .read-sizes .ensures) (c .before .number .given .1)
 

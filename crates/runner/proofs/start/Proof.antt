@@ -1,29 +1,21 @@
+-- `runner::start` meets its contract.
 use Rattle.runner.proofs.Openings.{opens}
 use borrow.Author.Needs.{needs}
 use Rattle.runner.proofs.start.Statement.{statement}
 use Rattle.runner.proofs.start.Tie as tie
-use Rattle.runner.proofs.start.Reads as reads
-use Rattle.runner.proofs.start.Lts as lts
-use Rattle.monitor.proofs.start.Reads as start-reads
-use Rattle.reading.proofs.supply.Reads as supply-reads
 
--- src/lib.rt:83:54
 supply-requires : tie.Need-supply-requires
 supply-requires c κs = search needs
 
--- src/lib.rt:83:9
 start-requires : tie.Need-start-requires
 start-requires c κs = search needs
 
--- src/lib.rt:80:1
 same-length : tie.Need-same-length
 same-length c = search needs
 
--- src/lib.rt:80:1
 same-length-2 : tie.Need-same-length-2
 same-length-2 c = search needs
 
--- src/lib.rt:80:1
 returns : tie.Need-returns
 returns c =
     let a = c .before .before .before .before .before .before .before .before .before .before .before .before .args in

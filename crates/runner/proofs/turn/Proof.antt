@@ -1,3 +1,4 @@
+-- `runner::turn` meets its contract.
 use mathlib.Core.Path.{_∙_}
 use native.Mathlib.Omega.{arith}
 use Rattle.runner.specs.Listing.{Point, point}
@@ -5,39 +6,25 @@ use Rattle.runner.proofs.Turns.{record-turns, record-further, refused-t
 use borrow.Author.Needs.{needs}
 use Rattle.runner.proofs.turn.Statement.{statement}
 use Rattle.runner.proofs.turn.Tie as tie
-use Rattle.runner.proofs.turn.Reads as reads
-use Rattle.runner.proofs.turn.Lts as lts
-use Rattle.lines.proofs.refused_line.Reads as refused-line-reads
-use Rattle.reading.proofs.data_of.Reads as data-of-reads
-use Rattle.reading.proofs.record_at.Reads as record-at-reads
-use Rattle.runner.proofs.ended.Reads as ended-reads
-use Rattle.runner.proofs.event_turn.Reads as event-turn-reads
 
--- src/lib.rt:170:18
 sub-unread : tie.Need-sub-unread
 sub-unread c = search needs
 
--- src/lib.rt:170:18
 part-unread-start : tie.Need-part-unread-start
 part-unread-start c = search needs
 
--- src/lib.rt:170:18
 part-unread-end : tie.Need-part-unread-end
 part-unread-end c = search needs
 
--- src/lib.rt:171:9
 record-at-requires : tie.Need-record-at-requires
 record-at-requires c κs = search needs
 
--- src/lib.rt:174:13
 enum-known-found : tie.Need-enum-known-found
 enum-known-found c = search needs
 
--- src/lib.rt:179:17
 data-of-requires : tie.Need-data-of-requires
 data-of-requires c κs = search needs
 
--- src/lib.rt:180:13
 abbrev entry : tie.Start → Point
 entry s = point (s .args .trace .now) (s .args .run) (s .args .frames .now) (s .args .store .now) (s .args .answer .now)
 
@@ -48,43 +35,33 @@ event-turn-requires c κs =
       s .pre .wide,
     )
 
--- src/lib.rt:193:24
 enum-known-found-2 : tie.Need-enum-known-found-2
 enum-known-found-2 c = search needs
 
--- src/lib.rt:195:17
 refused-line-requires : tie.Need-refused-line-requires
 refused-line-requires c κs = search needs
 
--- src/lib.rt:196:17
 ended-requires : tie.Need-ended-requires
 ended-requires c κs = search needs
 
--- src/lib.rt:200:35
 enum-told : tie.Need-enum-told
 enum-told c = search needs
 
--- src/lib.rt:200:17
 ended-requires-2 : tie.Need-ended-requires-2
 ended-requires-2 c κs = search needs
 
--- src/lib.rt:156:1
 same-length : tie.Need-same-length
 same-length c = search needs
 
--- src/lib.rt:156:1
 same-length-2 : tie.Need-same-length-2
 same-length-2 c = search needs
 
--- src/lib.rt:156:1
 same-length-3 : tie.Need-same-length-3
 same-length-3 c = search needs
 
--- src/lib.rt:156:1
 same-length-4 : tie.Need-same-length-4
 same-length-4 c = search needs
 
--- src/lib.rt:156:1
 returns : tie.Need-returns
 returns c =
     let s = c .before .before .before .before .before .before .before .before .before .before .before .before .before .before .before .before .before .before .before .before .before .before .before .before in (
@@ -92,11 +69,9 @@ returns c =
       c .before .before .before .before .before .before .before .before .event-turn .ensures .1,
     )
 
--- src/lib.rt:156:1
 same-length-5 : tie.Need-same-length-5
 same-length-5 c = search needs
 
--- src/lib.rt:156:1
 returns-2 : tie.Need-returns-2
 returns-2 c =
     let s = c .before .before .before .before .before .before .before .before .before .before .before .before .before .before .before in (
@@ -104,7 +79,6 @@ returns-2 c =
       omega (arith, c .before .before .before .refused-line .ensures .1),
     )
 
--- src/lib.rt:156:1
 returns-3 : tie.Need-returns-3
 returns-3 c =
     let s = c .before .before .before .before .before .before .before .before .before .before in (
