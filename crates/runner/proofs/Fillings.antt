@@ -17,7 +17,7 @@ use Rattle.lines.proofs.Puts.{put-then}
 use Rattle.runner.specs.Listing.{Point, Listed, point, listed, listedFrom}
 use Rattle.runner.specs.Filling.{Lines, Fills, lineRoom, none, behind, fitting, fills, turns, filled}
 use Rattle.runner.specs.declared.Run.{Run}
-use Rattle.runner.proofs.Steps.{Ahead, ahead, fitting-end, fitting-full, fitting-more}
+use Rattle.runner.proofs.Steps.{Ahead, ahead, Onward, fitting-onward, fitting-end, fitting-full, fitting-more}
 
 abbrev pub fillsAt : ℕ → Point → List ℕ → Fills
 fillsAt k p out = record { count = k; end = p; out = out }
@@ -156,3 +156,20 @@ module _ (start : Point) (before : List ℕ) where
       w .rest ∙ ap (behind (w .text)) (ap (λ (k : ℕ). fitting (k - count) p (listedFrom p)) (sym (w .long)) ∙ full p (length out - count) e f) ∙ ap (λ (t : List ℕ). linesOf t p) (append-nil (w .text)) in
       let counted : count ≡ length (w .text) = w .put .ends ∙ zero-add (length (w .text)) in
       rw (counted, w .put .bytes) (sym (ap (λ (l : Lines). fills l before) all) ∙ filled-by c)
+
+-- where a line is to follow and fits, the run comes further
+module _ (p : Point) (out : List ℕ) (c : p .run .index ≤ p .run .place) where
+  onward : (room : ℕ) → Onward p (fitting room p (listedFrom p) .end)
+  onward room = fitting-onward (length (p .trace)) p room (omega arith) c
+
+  pub filled-counted : (filled p out .end) .run .index ≤ (filled p out .end) .run .place
+  filled-counted = rw (sym (filled-by p out c)) (onward (length out) .counted)
+
+  pub filled-further : p .run .place < length (p .trace) → lineRoom p ≤ length out → p .run .place < (filled p out .end) .run .place
+  filled-further h f =
+      let a = ahead p h in
+      let next = listed p .next in
+      let on = fitting-onward (length (next .trace)) next (length out - length (listed p .line)) (omega arith) (a .counted c) in
+      let further : p .run .place < (fitting (length out) p (listedFrom p) .end) .run .place =
+      rw (fitting-more p (length out) h f) (omega (arith, a .further, on .further)) in
+      rw (sym (filled-by p out c)) further

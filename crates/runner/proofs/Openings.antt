@@ -7,6 +7,8 @@ use native.Mathlib.Nat.{mul-le-mul, zero-add}
 use native.Mathlib.Omega.{arith}
 use lib.Dec.{T, leb}
 use lib.ListN.{length}
+use lib.Seq.{length-take-le}
+use Rattle.io.specs.Counts.{Counts}
 use borrow.Author.Tests.{lt-ltb, le-ltb, lt-leb, le-leb}
 use Rattle.packing.specs.Packing.{split}
 use Rattle.rules.specs.Bytes.{allOf}
@@ -97,3 +99,6 @@ module _ (number : ℕ) (out : List ℕ) where
   room-for-it {r} {after} h p =
       let counted : r ≡ length (refusedLine 0 number 0) = p .ends ∙ zero-add _ in
       rw (le-ltb (length out) 128 h, counted, p .bytes)
+
+pub counts-in : (n : ℕ) (xs : List ℕ) → n ≤ length xs → Counts n xs
+counts-in n xs h = (h, sym (length-take-le n xs h))

@@ -114,3 +114,29 @@ pub fitting-more : (p : Point) (room : ℕ) → p .run .place < length (p .trace
     ≡ behind (listed p .line) (fitting (room - length (listed p .line)) (listed p .next) (listedFrom (listed p .next)))
 unfolding fitting
 fitting-more p room h f = rw (listed-more p h, le-leb (lineRoom p) room f)
+
+-- an output that is filled leaves the run further on, and its index still at most its place
+pub record Onward (p q : Point) : Type 0 where
+  pub further : p .run .place ≤ q .run .place
+  pub counted : q .run .index ≤ q .run .place
+
+abbrev stays : (p : Point) → p .run .index ≤ p .run .place → Onward p p
+stays p c = record { further = omega arith; counted = c }
+
+pub fitting-onward : (n : ℕ) (p : Point) (room : ℕ) → Enough p n → p .run .index ≤ p .run .place
+    → Onward p (fitting room p (listedFrom p) .end)
+fitting-onward zero p room e c = rw (fitting-end p room (omega arith)) (stays p c)
+fitting-onward (suc n) p room e c =
+    go (decLt (p .run .place) (length (p .trace))) (decLt room (lineRoom p))
+    (λ h. fitting-onward n (listed p .next) (room - length (listed p .line)) (enough-behind p n h e) (ahead p h .counted c))
+  where
+    go : Dec (p .run .place < length (p .trace)) → Dec (room < lineRoom p)
+        → (p .run .place < length (p .trace)
+        → Onward (listed p .next) (fitting (room - length (listed p .line)) (listed p .next) (listedFrom (listed p .next)) .end))
+        → Onward p (fitting room p (listedFrom p) .end)
+    go (yes h) (yes f) rest = rw (fitting-full p room h f) (stays p c)
+    go (yes h) (no f) rest =
+        let on = rest h in
+        let a = ahead p h in
+        rw (fitting-more p room h (omega arith)) (record { further = omega (arith, on .further, a .further); counted = on .counted })
+    go (no h) f rest = rw (fitting-end p room (omega arith)) (stays p c)

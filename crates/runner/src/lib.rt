@@ -4,6 +4,7 @@ ghost use mathlib.Core.List.{[], _∷_};
 ghost use Prim.Native.Nat.{_+_, _*_, _≤_, _<_};
 ghost use lib.ListN.{length};
 ghost use lib.Dec.{leb, ltb};
+ghost use Rattle.io.specs.Counts.{Counts};
 ghost use Rattle.rules.specs.Bytes.{allOf};
 ghost use Rattle.form.specs.Bounds.{InRange};
 ghost use Rattle.reading.specs.Reading.{readAt};
@@ -69,6 +70,7 @@ pub fn opening(trace: &[u8]) -> Header
 // The line of a refused header, over the front of out; nothing where out is shorter than a line may be. How many bytes it takes.
 pub fn refusal(number: u8, out: &mut [u8]) -> usize
     ensures { λ r. ⌜ record { count = r; out = now (out .exit) } ≡ refusalWrote number (now (out .entry)) ⌝ }
+    ensures { λ r. ⌜ Counts r (now (out .exit)) ⌝ }
 {
     if out.len() < LINE {
         return 0;
@@ -229,6 +231,7 @@ pub fn fill(
     out: &mut [u8],
 ) -> Filled
     ensures { λ r. ⌜ left r (now (trace .entry)) (now (frames .exit)) (now (store .exit)) (now (answer .exit)) (now (out .exit)) ≡ filled (point (now (trace .entry)) run (now (frames .entry)) (now (store .entry)) (now (answer .entry))) (now (out .entry)) ⌝ }
+    ensures { λ r. ⌜ Counts (r .count) (now (out .exit)) ⌝ }
 {
     let mut after = run;
     let mut count: usize = 0;

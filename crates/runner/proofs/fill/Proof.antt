@@ -5,6 +5,7 @@ use native.Mathlib.Omega.{arith}
 use borrow.Author.Needs.{needs}
 use lib.ListN.{length}
 use Rattle.runner.specs.Listing.{Point, point}
+use Rattle.runner.proofs.Openings.{counts-in}
 use Rattle.runner.proofs.Fillings.{goes, Written, written-none, turn-further, turn-inside, written-more, written-all, filled-not}
 use Rattle.runner.proofs.fill.Statement.{statement}
 use Rattle.runner.proofs.fill.Tie as tie
@@ -23,7 +24,8 @@ abbrev entry : tie.Start Inv-loop μ-loop → Point
 entry s = point (s .args .trace .now) (s .args .run) (s .args .frames .now) (s .args .store .now) (s .args .answer .now)
 
 returns : tie.Need-returns Inv-loop μ-loop
-returns c = filled-not (entry (c .before .before .before .before .before .before .before)) (c .before .before .before .before .before .before .before .args .out .now) (c .if1 .taken)
+returns c =
+    (filled-not (entry (c .before .before .before .before .before .before .before)) (c .before .before .before .before .before .before .before .args .out .now) (c .if1 .taken), counts-in 0 (c .before .before .before .before .before .before .before .args .out .now) (omega arith))
 
 loop-holds : tie.Need-loop-holds Inv-loop μ-loop
 loop-holds c = (refl, refl, refl, written-none (entry (c .before .before .before .before .before .before .before)) (c .before .before .before .before .before .before .before .args .out .now) (c .if1 .left))
@@ -71,7 +73,7 @@ returns-2 : tie.Need-returns-2 Inv-loop μ-loop
 returns-2 c =
     let s = c .before .before .before .before .before .before .before .before .before .before in
     let l = c .before .before .loop in
-    written-all (entry s) (s .args .out .now) (c .before .before .before .if1 .left) (l .inv .3) (c .before .goes-on .ensures) (c .if2 .left)
+    (written-all (entry s) (s .args .out .now) (c .before .before .before .if1 .left) (l .inv .3) (c .before .goes-on .ensures) (c .if2 .left), counts-in (l .count) (l .out) (omega (arith, l .inv .3 .within, l .inv .3 .long)))
 
 pub fill-spec : {M : Type 1} → statement M
 fill-spec =
