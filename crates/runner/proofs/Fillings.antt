@@ -173,3 +173,14 @@ module _ (p : Point) (out : List ℕ) (c : p .run .index ≤ p .run .place) wher
       let further : p .run .place < (fitting (length out) p (listedFrom p) .end) .run .place =
       rw (fitting-more p (length out) h f) (omega (arith, a .further, on .further)) in
       rw (sym (filled-by p out c)) further
+
+  -- the same of what is left
+  module _ {count : ℕ} {q : Point} {after : List ℕ} (e : fillsAt count q after ≡ filled p out) where
+    is-end : q ≡ filled p out .end
+    is-end = ap (λ (f : Fills). f .end) e
+
+    pub left-counted : q .run .index ≤ q .run .place
+    left-counted = rw is-end filled-counted
+
+    pub left-further : p .run .place < length (p .trace) → lineRoom p ≤ length out → p .run .place < q .run .place
+    left-further h f = rw is-end (filled-further h f)

@@ -23,7 +23,8 @@ use Rattle.reading.specs.declared.Header.the-variants.{Sizes, Refused}
 use Rattle.stepping.specs.Left.{Left}
 use Rattle.monitor.specs.Started.{started}
 use Rattle.lines.specs.Lines.{refusedLine, Put}
-use Rattle.runner.specs.Listing.{point, runAt, supplyOf, startPoint}
+use Rattle.runner.specs.Listing.{Point, point, runAt, supplyOf, startPoint}
+use Rattle.runner.specs.declared.Run.{Run}
 use Rattle.runner.specs.Filling.{wrote, refusalWrote}
 use Rattle.runner.specs.Opening.{limit, framesLength, storeLength, productsFit, openingOf, openingAt}
 
@@ -86,6 +87,10 @@ module _ (trace : List ℕ) (setup : Setup) (place : ℕ) (frames store supply :
       → point trace (runAt setup (l .state) place 0) (l .frames) (l .store) [] ≡ startPoint trace setup place frames store []
   unfolding startPoint
   opens s e = rw (e, s)
+
+  pub start-counted : {r : Run} {f t : List ℕ} → point trace r f t [] ≡ startPoint trace setup place frames store [] → r .index ≤ r .place
+  unfolding startPoint
+  start-counted {r} e = let none : r .index ≡ 0 = ap (λ (p : Point). p .run .index) e in omega arith
 
 -- a refused header's line
 module _ (number : ℕ) (out : List ℕ) where

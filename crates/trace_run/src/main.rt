@@ -3,6 +3,7 @@
 ghost use mathlib.Core.Path.{_≡_};
 ghost use Prim.Native.Nat.{_+_, _*_, _≤_, _<_};
 ghost use lib.ListN.{length};
+ghost use Rattle.runner.specs.Opening.{openingAt};
 use libc::STDIN_FILENO;
 use libc::STDOUT_FILENO;
 use reading::Header;
@@ -36,11 +37,67 @@ fn read_all(buf: &mut [u8]) -> Input
     Input { count, whole: true }
 }
 
+// Writes the lines from a place of the trace on, in large pieces, until the trace is at its end or the output is closed.
+fn write_lines(
+    trace: &[u8],
+    setup: Setup,
+    place: usize,
+    frames: &mut [u8],
+    store: &mut [u8],
+    answer: &mut [u8],
+    out: &mut [u8],
+)
+    requires { ⌜ 128 + 2 * length (now answer) ≤ length (now out) ⌝ }
+{
+    let mut run = runner::start(trace, setup, place, frames, store);
+    while run.place < trace.len() {
+        let filled = runner::fill(run, trace, frames, store, answer, out);
+        let count = filled.count;
+        if !io::write_all(STDOUT_FILENO, &out[..count]) {
+            return;
+        }
+        run = filled.run;
+    }
+}
+
+// The listing of a trace that trace-run takes: as much of the lent memory as the setup asks for is handed on.
+fn list_records(trace: &[u8], setup: Setup, place: usize, out: &mut [u8])
+    requires { ⌜ (openingAt (now trace) ≡ Header.Sizes setup place) × (8320 ≤ length (now out)) ⌝ }
+{
+    let mut frames = [0u8; 16384];
+    let mut store = [0u8; 16384];
+    let mut answer = [0u8; 4096];
+    let f = setup.frames * setup.size;
+    let s = setup.domains * setup.pages * setup.size;
+    write_lines(
+        trace,
+        setup,
+        place,
+        &mut frames[..f],
+        &mut store[..s],
+        &mut answer,
+        out,
+    );
+}
+
+// The listing of a trace.
+fn list(trace: &[u8]) {
+    let mut out = io::large_buffer();
+    match runner::opening(trace) {
+        Header::Sizes(setup, place) => list_records(trace, setup, place, &mut out),
+        Header::Refused(number) => {
+            let count = runner::refusal(number, &mut out);
+            io::write_all(STDOUT_FILENO, &out[..count]);
+        }
+    }
+}
+
 fn main() {
+    // one byte more than a trace may have, so that a longer one is seen to be too long
     let mut buf = [0u8; 16385];
     let input = read_all(&mut buf);
     let count = input.count;
     if input.whole {
-        io::write_all(STDOUT_FILENO, &buf[..count]);
+        list(&buf[..count]);
     }
 }
