@@ -5,19 +5,21 @@ use mathlib.Core.List.{List, []}
 use Prim.Native.Nat.{ℕ, _*_, _≤_, _<_}
 use native.Mathlib.Nat.{mul-le-mul, zero-add}
 use native.Mathlib.Omega.{arith}
-use lib.Dec.{T, leb}
+use lib.Dec.{T, leb, ltb, leb→le}
 use lib.ListN.{length}
 use lib.Seq.{length-take-le}
 use Rattle.io.specs.Counts.{Counts}
 use borrow.Author.Tests.{lt-ltb, le-ltb, lt-leb, le-leb}
 use Rattle.packing.specs.Packing.{split}
 use Rattle.rules.specs.Bytes.{allOf}
+use Rattle.rules.proofs.Facts.{each, passed}
 use Rattle.rules.specs.Sizes.{setupInRange}
 use Rattle.rules.specs.declared.Setup.{Setup}
 use Rattle.form.specs.Bounds.{InRange}
 use Rattle.form.specs.Header.{headerWidths, setupIn, headerValues}
 use Rattle.form.proofs.Headers.{in-range, read-in-range}
 use Rattle.reading.specs.Reading.{sizesOf, sizesWhole, sizesAt, headerAt}
+use Rattle.reading.proofs.Headers.{opened}
 use Rattle.reading.specs.declared.Header.{Header}
 use Rattle.reading.specs.declared.Header.the-variants.{Sizes, Refused}
 use Rattle.stepping.specs.Left.{Left}
@@ -80,6 +82,46 @@ module _ (trace : List ℕ) where
     pub sizes-refused : {n : ℕ} → r ≡ Refused n → Refused n ≡ openingAt trace
     unfolding openingOf
     sizes-refused e = by-sizes e
+
+-- what is known of a setup that trace-run takes
+module _ (trace : List ℕ) (s : Setup) (at : ℕ) (e : openingAt trace ≡ Sizes s at) where
+  refused-not : {n : ℕ} → Refused n ≡ Sizes s at → ⊥
+  refused-not q = let z : _≡_ {A = ℕ} 0 1 = cc in omega arith
+
+  taken : (b : Bool) (h : Header) → cond b h (Refused 10) ≡ Sizes s at → (b ≡ true) × (h ≡ Sizes s at)
+  taken true h q = (refl, q)
+  taken false h q = absurd (refused-not q)
+
+  abbrev read : Setup
+  read = setupIn (headerValues trace)
+
+  both : (productsFit read ≡ true) × (headerAt trace ≡ Sizes s at)
+  unfolding openingAt openingOf sizesAt
+  both = go (ltb limit (length trace)) (sizesWhole trace) e
+    where
+      go : (a b : Bool) → cond a (Refused 10) (openingOf trace (cond b (sizesOf read) (Refused 9))) ≡ Sizes s at
+          → (productsFit read ≡ true) × (headerAt trace ≡ Sizes s at)
+      go true b q = absurd (refused-not q)
+      go false true q = taken (productsFit read) (headerAt trace) q
+      go false false q = absurd (refused-not q)
+
+  is-read : s ≡ read
+  is-read = opened s at trace (both .1) .setup
+
+  fitting : T (productsFit s)
+  fitting = passed (productsFit s) (rw is-read (both .0))
+
+  pub taken-in-range : InRange s
+  unfolding headerValues
+  taken-in-range = in-range s (rw is-read (read-in-range _))
+
+  pub taken-frames : framesLength s ≤ limit
+  unfolding productsFit
+  taken-frames = leb→le (framesLength s) limit (each _ fitting .0)
+
+  pub taken-store : storeLength s ≤ limit
+  unfolding productsFit
+  taken-store = leb→le (storeLength s) limit (each _ fitting .1 .0)
 
 -- the start, where the monitor's is l
 module _ (trace : List ℕ) (setup : Setup) (place : ℕ) (frames store supply : List ℕ) where

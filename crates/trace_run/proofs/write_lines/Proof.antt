@@ -11,11 +11,6 @@ use Rattle.runner.proofs.Openings.{start-counted}
 use Rattle.runner.proofs.Fillings.{left-counted, left-further}
 use Rattle.trace_run.proofs.write_lines.Statement.{statement}
 use Rattle.trace_run.proofs.write_lines.Tie as tie
-use Rattle.trace_run.proofs.write_lines.Reads as reads
-use Rattle.trace_run.proofs.write_lines.Lts as lts
-use Rattle.io.proofs.write_all.Reads as write-all-reads
-use Rattle.runner.proofs.fill.Reads as fill-reads
-use Rattle.runner.proofs.start.Reads as start-reads
 
 abbrev Inv-loop : tie.InvT-loop
 Inv-loop trace place frames₀ store₀ answer₀ out₀ run₀ frames store answer out run =
@@ -28,60 +23,47 @@ Inv-loop trace place frames₀ store₀ answer₀ out₀ run₀ frames store ans
 abbrev μ-loop : tie.MeasureT-loop
 μ-loop trace place frames₀ store₀ answer₀ out₀ run₀ frames store answer out run = length trace - run .place
 
--- src/main.rt:52:9
 start-requires : tie.Need-start-requires Inv-loop μ-loop
 start-requires c κs = search needs
 
--- src/main.rt:53:5
 loop-holds : tie.Need-loop-holds Inv-loop μ-loop
 loop-holds c =
     let a = c .before .before .before .before .before .before .before .before .before .before .before .before .args in
     (refl, refl, refl, refl, start-counted (a .trace .now) (a .setup) (a .place) (a .frames .now) (a .store .now) [] (c .before .before .before .before .start .ensures))
 
--- src/main.rt:54:13
 fill-requires : tie.Need-fill-requires Inv-loop μ-loop
 fill-requires c κs = search needs
 
--- src/main.rt:56:42
 slice-reshare-prefix-write-all : tie.Need-slice-reshare-prefix-write-all Inv-loop μ-loop
 slice-reshare-prefix-write-all c = c .before .before .before .before .before .before .before .before .fill .ensures .1 .0
 
--- src/main.rt:56:42
 slice-aggregate-write-all : tie.Need-slice-aggregate-write-all Inv-loop μ-loop
 slice-aggregate-write-all c = c .before .before .before .before .before .before .before .before .before .fill .ensures .1 .1
 
--- src/main.rt:56:13
 write-all-requires : tie.Need-write-all-requires Inv-loop μ-loop
 write-all-requires c κs = search needs
 
--- src/main.rt:57:13
 same-length : tie.Need-same-length Inv-loop μ-loop
 same-length c = search needs
 
--- src/main.rt:57:13
 same-length-2 : tie.Need-same-length-2 Inv-loop μ-loop
 same-length-2 c = search needs
 
--- src/main.rt:57:13
 same-length-3 : tie.Need-same-length-3 Inv-loop μ-loop
 same-length-3 c = search needs
 
--- src/main.rt:57:13
 same-length-4 : tie.Need-same-length-4 Inv-loop μ-loop
 same-length-4 c = search needs
 
--- src/main.rt:57:13
 returns : tie.Need-returns Inv-loop μ-loop
 returns c = tt
 
--- src/main.rt:53:5
 loop-less : tie.Need-loop-less Inv-loop μ-loop
 loop-less c =
     let l = c .before .before .before .before .before .before .before .before .before .before .before .before .before .before .before .before .before .before .before .loop in
     let wide : 128 + 2 * length (l .answer) ≤ length (l .out) = omega (arith, c .before .before .before .before .before .before .before .before .before .before .before .before .before .before .before .before .before .before .before .before .before .before .before .before .before .before .before .before .before .before .before .before .pre, l .inv .2, l .inv .3) in
     omega (arith, c .before .before .before .before .before .before .before .before .before .before .before .before .before .before .before .before .before .if1 .taken, left-further (point (c .before .before .before .before .before .before .before .before .before .before .before .before .before .before .before .before .before .before .before .before .before .before .before .before .before .before .before .before .before .before .before .before .args .trace .now) (l .run) (l .frames) (l .store) (l .answer)) (l .out) (l .inv .4) (c .before .before .before .before .before .before .before .before .before .before .before .before .fill .ensures .0) (c .before .before .before .before .before .before .before .before .before .before .before .before .before .before .before .before .before .if1 .taken) wide)
 
--- src/main.rt:53:5
 loop-again : tie.Need-loop-again Inv-loop μ-loop
 loop-again c =
     let l = c .before .before .before .before .before .before .before .before .before .before .before .before .before .before .before .before .before .before .before .loop in (
@@ -92,23 +74,18 @@ loop-again c =
       left-counted (point (c .before .before .before .before .before .before .before .before .before .before .before .before .before .before .before .before .before .before .before .before .before .before .before .before .before .before .before .before .before .before .before .before .args .trace .now) (l .run) (l .frames) (l .store) (l .answer)) (l .out) (l .inv .4) (c .before .before .before .before .before .before .before .before .before .before .before .before .fill .ensures .0),
     )
 
--- src/main.rt:41:1
 same-length-5 : tie.Need-same-length-5 Inv-loop μ-loop
 same-length-5 c = search needs
 
--- src/main.rt:41:1
 same-length-6 : tie.Need-same-length-6 Inv-loop μ-loop
 same-length-6 c = search needs
 
--- src/main.rt:41:1
 same-length-7 : tie.Need-same-length-7 Inv-loop μ-loop
 same-length-7 c = search needs
 
--- src/main.rt:41:1
 same-length-8 : tie.Need-same-length-8 Inv-loop μ-loop
 same-length-8 c = search needs
 
--- src/main.rt:41:1
 returns-2 : tie.Need-returns-2 Inv-loop μ-loop
 returns-2 c = tt
 
