@@ -4,3 +4,5 @@ pub mod Showing
 pub mod Openings
 pub mod Turns
 pub mod Fillings
+pub mod OneAnswer
+pub mod Listings

@@ -100,7 +100,7 @@ each-true : (a b : Bool) → a && b ≡ true → (a ≡ true) × (b ≡ true)
 each-true true b e = (refl, e)
 each-true false b e = absurd (not-shown e)
 
-overlay-front : (new bytes : List ℕ) (k : ℕ) → length new ≡ k → k ≤ length bytes → take k (overlay 0 new bytes) ≡ new
+pub overlay-front : (new bytes : List ℕ) (k : ℕ) → length new ≡ k → k ≤ length bytes → take k (overlay 0 new bytes) ≡ new
 overlay-front new bytes k size fits =
     ap (take k) (overlay-is 0 new bytes (omega arith)) ∙ take-at new (drop (0 + length new) bytes) k size
 

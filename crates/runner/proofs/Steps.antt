@@ -59,10 +59,10 @@ module _ (p : Point) (n : ℕ) where
   unfolding listedIn
   in-more h = rw (lt-ltb (p .run .place) (length (p .trace)) h)
 
-abbrev Enough : Point → ℕ → Type 0
+abbrev pub Enough : Point → ℕ → Type 0
 Enough p n = length (p .trace) ≤ p .run .place + n
 
-enough-behind : (p : Point) (n : ℕ) → p .run .place < length (p .trace) → Enough p (suc n) → Enough (listed p .next) n
+pub enough-behind : (p : Point) (n : ℕ) → p .run .place < length (p .trace) → Enough p (suc n) → Enough (listed p .next) n
 enough-behind p n h e = let a = ahead p h in omega (arith, ap length (a .trace), a .further)
 
 any-enough : (n m : ℕ) (p : Point) → Enough p n → Enough p m → listedIn n p ≡ listedIn m p

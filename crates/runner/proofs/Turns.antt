@@ -17,13 +17,11 @@ use Rattle.trace.proofs.Records.{stands, takes-a-byte}
 use Rattle.trace.proofs.Wholes.{first-right}
 use Rattle.stepping.specs.Left.{Left, leaves, stepped}
 use Rattle.lines.specs.Lines.{decimal, line, refusedLine, Put}
-use Rattle.runner.specs.Listing.{Point, Listed, point, supplyOf, unread, shown, shownLength, eventLine, behind, endedRun, ended, outcomeAt, eventListed, listedAs, listed}
-use Rattle.runner.specs.Filling.{Fills, turns}
+use Rattle.runner.specs.Listing.{Point, Listed, point, supplyOf, unread, shown, shownLength, eventLine, behind, outcomeAt, eventListed, listedAs, listed}
+use Rattle.runner.specs.Filling.{left, endedFill, turns}
 use Rattle.runner.specs.declared.Run.{Run}
+use Rattle.runner.specs.declared.Filled.{Filled}
 use Rattle.runner.proofs.Showing.{shown-fits, shown-front, length-buffer}
-
-abbrev fillsAt : ℕ → Point → List ℕ → Fills
-fillsAt k p out = record { count = k; end = p; out = out }
 
 -- an event, where l is what the monitor leaves, and n bytes of its answer buffer are shown
 module _ (trace : List ℕ) (run : Run) (frames store buffer : List ℕ) (e : Event) (next : ℕ) (new supply : List ℕ) {l : Left} {n : ℕ}
@@ -83,16 +81,15 @@ module _ (p : Point) {found : Found} (finds : found ≡ readAt first (take (leng
         let st = stands e start len next first (unread p) (p .run .place) (sym is ∙ r) in
         omega (arith, st .next-at, takes-a-byte first first-right (unread p) (p .run .place) e start len next st)
 
-  module _ (at : ℕ) (out : List ℕ) {last : Run} (ends : last ≡ endedRun (p .run) (length (p .trace))) where
-    pub refused-turns : {n r : ℕ} {after : List ℕ} → found ≡ Refused n
+  module _ (at : ℕ) (out : List ℕ) {f : Filled} {r : ℕ} (ends : f ≡ endedFill (p .run) (length (p .trace)) r) where
+    pub refused-turns : {n : ℕ} {after : List ℕ} → found ≡ Refused n
         → Put at (refusedLine (p .run .index) n (p .run .state .tables .used)) out r after
-        → record { count = r; end = point (p .trace) last (p .frames) (p .store) (p .buffer); out = after } ≡ turns at (listed p) out
+        → left f (p .trace) (p .frames) (p .store) (p .buffer) after ≡ turns at (listed p) out
     unfolding listedAs
-    refused-turns e put = rw (put .ends, put .bytes, ends) (ap (λ (l : Listed). turns at l out) (as-listed e))
+    refused-turns e put = rw (ends, put .ends, put .bytes) (ap (λ (l : Listed). turns at l out) (as-listed e))
 
-    pub end-turns : found ≡ End
-        → record { count = at; end = point (p .trace) last (p .frames) (p .store) (p .buffer); out = out } ≡ turns at (listed p) out
+    pub end-turns : r ≡ at → found ≡ End → left f (p .trace) (p .frames) (p .store) (p .buffer) out ≡ turns at (listed p) out
     unfolding listedAs overlay
-    end-turns e =
-        let none : at ≡ at + 0 = sym (add-zero at) in
-        rw ends (ap (λ (k : ℕ). fillsAt k (ended p) out) none ∙ ap (λ (l : Listed). turns at l out) (as-listed e))
+    end-turns s e =
+        let none : r ≡ at + 0 = s ∙ sym (add-zero at) in
+        rw (ends, none) (ap (λ (l : Listed). turns at l out) (as-listed e))

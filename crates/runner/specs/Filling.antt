@@ -8,7 +8,7 @@ use lib.ListN.{length}
 use lib.Dec.{leb, ltb}
 use Rattle.rules.specs.Bytes.{overlay}
 use Rattle.lines.specs.Lines.{refusedLine}
-use Rattle.runner.specs.Listing.{Point, Listed, point, listedFrom}
+use Rattle.runner.specs.Listing.{Point, Listed, point, endedRun, listedFrom}
 use Rattle.runner.specs.declared.Run.{Run}
 use Rattle.runner.specs.declared.Filled.{Filled}
 
@@ -46,6 +46,9 @@ left r trace frames store buffer out =
 
 abbrev pub fills : Lines → List ℕ → Fills
 fills l out = record { count = length (l .text); end = l .end; out = overlay 0 (l .text) out }
+
+abbrev pub endedFill : Run → ℕ → ℕ → Filled
+endedFill run end count = record { run = endedRun run end; count = count }
 
 -- one line, from at on
 abbrev pub turns : ℕ → Listed → List ℕ → Fills

@@ -9,8 +9,8 @@ ghost use Rattle.rules.specs.Bytes.{allOf};
 ghost use Rattle.form.specs.Bounds.{InRange};
 ghost use Rattle.reading.specs.Reading.{readAt};
 ghost use Rattle.runner.specs.Opening.{productsFit, openingAt};
-ghost use Rattle.runner.specs.Listing.{point, endedRun, listed, listedAs, eventListed, shownLength, startPoint};
-ghost use Rattle.runner.specs.Filling.{left, turns, filled, Ready, refusalWrote, wrote as wroteOver};
+ghost use Rattle.runner.specs.Listing.{point, listed, listedAs, eventListed, shownLength, startPoint};
+ghost use Rattle.runner.specs.Filling.{left, endedFill, turns, filled, Ready, refusalWrote, wrote as wroteOver};
 use reading::Found;
 use reading::Header;
 use rules::Answer;
@@ -140,18 +140,19 @@ fn event_turn(
     Filled { run: behind, count }
 }
 
-// The run at the trace's end.
-fn ended(run: Run, end: usize) -> Run
-    ensures { λ r. ⌜ r ≡ endedRun run end ⌝ }
+// The run at the trace's end, behind count bytes of the output.
+fn ended(run: Run, end: usize, count: usize) -> Filled
+    ensures { λ r. ⌜ r ≡ endedFill run end count ⌝ }
 {
     let setup = run.setup;
     let state = run.state;
-    Run {
+    let last = Run {
         setup,
         state,
         place: end,
         index: run.index,
-    }
+    };
+    Filled { run: last, count }
 }
 
 // The line of what stands at the run's place, over out from at on; the run behind it, and the place behind the line.
@@ -178,33 +179,15 @@ fn turn(
             len: _,
             next,
         } => {
-            let data = reading::data_of(unread, found);
-            event_turn(
-                run,
-                next,
-                event,
-                data,
-                trace,
-                frames,
-                store,
-                answer,
-                out,
-                at,
-            )
+            let new = reading::data_of(unread, found);
+            event_turn(run, next, event, new, trace, frames, store, answer, out, at)
         }
         Found::Refused(number) => {
             let used = run.state.tables.used;
             let count = lines::refused_line(out, at, run.index, number, used);
-            let last = ended(run, trace.len());
-            Filled { run: last, count }
+            ended(run, trace.len(), count)
         }
-        Found::End => {
-            let last = ended(run, trace.len());
-            Filled {
-                run: last,
-                count: at,
-            }
-        }
+        Found::End => ended(run, trace.len(), at),
     }
 }
 

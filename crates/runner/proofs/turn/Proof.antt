@@ -1,7 +1,8 @@
 -- `runner::turn` meets its contract.
-use mathlib.Core.Path.{_∙_}
+use mathlib.Core.Path.{refl, ap, _∙_}
 use native.Mathlib.Omega.{arith}
 use Rattle.runner.specs.Listing.{Point, point}
+use Rattle.runner.specs.declared.Filled.{Filled}
 use Rattle.runner.proofs.Turns.{record-turns, record-further, refused-turns, end-turns}
 use borrow.Author.Needs.{needs}
 use Rattle.runner.proofs.turn.Statement.{statement}
@@ -76,14 +77,14 @@ returns-2 : tie.Need-returns-2
 returns-2 c =
     let s = c .before .before .before .before .before .before .before .before .before .before .before .before .before .before .before in (
       refused-turns (entry s) (c .before .before .before .before .before .before .before .before .record-at .ensures) (s .args .at) (s .args .out .now) (c .ended .ensures) (c .before .before .before .before .before .before .found2 .given .1) (c .before .before .before .refused-line .ensures .0),
-      omega (arith, c .before .before .before .refused-line .ensures .1),
+      omega (arith, c .before .before .before .refused-line .ensures .1, ap (λ (f : Filled). f .count) (c .ended .ensures)),
     )
 
 returns-3 : tie.Need-returns-3
 returns-3 c =
     let s = c .before .before .before .before .before .before .before .before .before .before in (
-      end-turns (entry s) (c .before .before .before .record-at .ensures) (s .args .at) (s .args .out .now) (c .ended2 .ensures) (c .before .enum-told .given .1),
-      omega arith,
+      end-turns (entry s) (c .before .before .before .record-at .ensures) (s .args .at) (s .args .out .now) (c .ended2 .ensures) refl (c .before .enum-told .given .1),
+      omega (arith, ap (λ (f : Filled). f .count) (c .ended2 .ensures)),
     )
 
 pub turn-spec : {M : Type 1} → statement M
