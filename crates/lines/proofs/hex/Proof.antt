@@ -1,11 +1,9 @@
 -- `lines::hex` meets its contract. The loop's invariant: the first i bytes are written.
 use mathlib.Core.Path.{_≡_, refl}
 use Prim.Native.Nat.{_-_, _≤_}
-use native.Mathlib.Nat.{mod-lt, div-lt-iff-lt-mul}
 use native.Mathlib.Omega.{arith}
 use borrow.Author.Needs.{needs}
-use lib.Dec.{lit<}
-use lib.ListN.{length, take, getD, length-set}
+use lib.ListN.{length, take, length-set}
 use Rattle.rules.specs.Bytes.{overlay}
 use Rattle.lines.specs.Lines.{hex}
 use Rattle.lines.proofs.Puts.{hex-turn, hex-done}
@@ -27,7 +25,7 @@ shared-slice-read-b : tie.Need-shared-slice-read-b Inv-loop μ-loop
 shared-slice-read-b c = omega arith
 
 digit-requires : tie.Need-digit-requires Inv-loop μ-loop
-digit-requires c κs = div-lt-iff-lt-mul {k = 16} {x = getD (c .before .before .before .before .before .args .bytes .now) (c .before .before .loop .i) 0} {y = 16} (lit< tt) .1 (omega (arith, c .shared-slice-known2 .given (c .before .before .loop .i)))
+digit-requires c κs = omega (arith, c .shared-slice-known2 .given (c .before .before .loop .i))
 
 mul-out : tie.Need-mul-out Inv-loop μ-loop
 mul-out c = omega arith
@@ -39,7 +37,7 @@ slice-write-out : tie.Need-slice-write-out Inv-loop μ-loop
 slice-write-out c = omega arith
 
 digit-requires-2 : tie.Need-digit-requires-2 Inv-loop μ-loop
-digit-requires-2 c κs = mod-lt _ (lit< tt)
+digit-requires-2 c κs = omega arith
 
 mul-out-2 : tie.Need-mul-out-2 Inv-loop μ-loop
 mul-out-2 c = omega arith
