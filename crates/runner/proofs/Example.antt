@@ -2,9 +2,8 @@
 use mathlib.Core.Path.{_≡_, refl}
 use mathlib.Core.List.{List, [], _∷_, _++_}
 use Prim.Native.Nat.{ℕ}
-use lib.ListN.{replicate}
 use Rattle.rules.proofs.Computing.{computing}
-use Rattle.form.specs.Form.{widthsOf, headOf, headBytes, valuesAt, eventOf}
+use Rattle.form.specs.Form.{widthsOf, headOf, valuesAt, eventOf}
 use Rattle.form.specs.Header.{headerValues}
 use Rattle.reading.specs.Reading.{sizesWhole, sizesAt, headerAt, kindIn, hasEvent, eventAt, dataAt, headWhole, recordOf, readAt}
 use Rattle.trace.specs.Example.{exampleTrace}

@@ -1,12 +1,12 @@
 -- Filling an output, line by line: what is known between two turns, and what is left at the end. Assumes nothing.
-use mathlib.Core.Path.{_≡_, refl, sym, ap, subst, _∙_}
-use mathlib.Core.Bool.{Bool, true, false, cond}
+use mathlib.Core.Path.{_≡_, refl, sym, ap, _∙_}
+use mathlib.Core.Bool.{Bool, true, false}
 use mathlib.Core.List.{List, [], _∷_, _++_, append-assoc, append-nil}
 use Prim.Native.Nat.{ℕ, _+_, _-_, _*_, _/_, _≤_, _<_}
 use native.Mathlib.Nat.{zero-add}
 use native.Mathlib.Decide.{decLt}
 use native.Mathlib.Omega.{arith}
-use lib.ListN.{length, length-append}
+use lib.ListN.{length}
 use lib.Dec.{leb, ltb, ltb→lt, leb→le}
 use borrow.Author.Tests.{lt-ltb, le-ltb, lt-leb, le-leb}
 use Rattle.rules.proofs.Facts.{each, passed}
@@ -14,10 +14,9 @@ use Rattle.rules.proofs.Parts.{length-overlay}
 use Rattle.rules.specs.Bytes.{overlay, allOf}
 use Rattle.lines.specs.Lines.{Put}
 use Rattle.lines.proofs.Puts.{put-then}
-use Rattle.runner.specs.Listing.{Point, Listed, point, listed, listedFrom}
+use Rattle.runner.specs.Listing.{Point, listed, listedFrom}
 use Rattle.runner.specs.Filling.{Lines, Fills, lineRoom, none, behind, fitting, fills, turns, filled}
-use Rattle.runner.specs.declared.Run.{Run}
-use Rattle.runner.proofs.Steps.{Ahead, ahead, Onward, fitting-onward, fitting-end, fitting-full, fitting-more}
+use Rattle.runner.proofs.Steps.{ahead, Onward, fitting-onward, fitting-end, fitting-full, fitting-more}
 
 abbrev pub fillsAt : ℕ → Point → List ℕ → Fills
 fillsAt k p out = record { count = k; end = p; out = out }

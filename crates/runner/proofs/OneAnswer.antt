@@ -1,6 +1,6 @@
 -- Document 01, "What the promises have to say": each public function's promise leaves one answer, and one set of bytes. Stated over
 -- what the checker itself reads of the function's `ensures`. Assumes nothing.
-use mathlib.Core.Path.{_≡_, sym, ap, _∙_}
+use mathlib.Core.Path.{sym, ap, _∙_}
 use mathlib.Core.List.{List, []}
 use Prim.Native.Nat.{ℕ}
 use denote.Ref.{now}

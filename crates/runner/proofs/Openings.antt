@@ -10,13 +10,12 @@ use lib.ListN.{length}
 use lib.Seq.{length-take-le}
 use Rattle.io.specs.Counts.{Counts}
 use borrow.Author.Tests.{lt-ltb, le-ltb, lt-leb, le-leb}
-use Rattle.packing.specs.Packing.{split}
 use Rattle.rules.specs.Bytes.{allOf}
 use Rattle.rules.proofs.Facts.{each, passed}
 use Rattle.rules.specs.Sizes.{setupInRange}
 use Rattle.rules.specs.declared.Setup.{Setup}
 use Rattle.form.specs.Bounds.{InRange}
-use Rattle.form.specs.Header.{headerWidths, setupIn, headerValues}
+use Rattle.form.specs.Header.{setupIn, headerValues}
 use Rattle.form.proofs.Headers.{in-range, read-in-range}
 use Rattle.reading.specs.Reading.{sizesOf, sizesWhole, sizesAt, headerAt}
 use Rattle.reading.proofs.Headers.{opened}

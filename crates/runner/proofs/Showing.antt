@@ -10,14 +10,14 @@ use denote.Enum.Declared.{tagOf}
 use lib.Dec.{eqb}
 use lib.ListN.{length, take, drop, length-drop}
 use lib.Seq.{length-take-le, take-at}
-use borrow.Author.Tests.{eqb-true, eqb-false, eq-eqb, ne-eqb}
+use borrow.Author.Tests.{eqb-true, eqb-false, ne-eqb}
 use Rattle.rules.proofs.Event.{the-type}
-use Rattle.rules.specs.Bytes.{part, overlay, withPart, bytesOf, mapFrom, wordsIn, bigEndian}
+use Rattle.rules.specs.Bytes.{part, overlay, bytesOf, mapFrom, wordsIn, bigEndian}
 use Rattle.rules.proofs.Parts.{length-overlay, length-withPart, overlay-is}
 use Rattle.rules.proofs.Granting.{is-granted}
 use Rattle.rules.specs.Records.{Given, Machine, given, machine, placeOf, namesOf}
 use Rattle.rules.specs.Sealing.{sealPage, sealAt, sealNamed, seal, sealAll, done}
-use Rattle.rules.specs.Events.{kindOf, answerLength, row, onFrame, does, spanBytes, shown as shownWords}
+use Rattle.rules.specs.Events.{answerLength, row, onFrame, does, spanBytes, shown as shownWords}
 use Rattle.rules.specs.Answers.{Outcome, refusal, refused, perform, performed, outset, stepFrom, step}
 use Rattle.rules.specs.declared.Setup.{Setup}
 use Rattle.rules.specs.declared.State.{State}

@@ -1,13 +1,11 @@
 -- The laws of the listing: every line brings the run forward, so the lines from a point are its next line and those from the point
 -- behind that; and an output filled with lines holds the first of them. Assumes nothing.
 use mathlib.Core.Path.{_≡_, refl, sym, ap, _∙_}
-use mathlib.Core.Bool.{Bool, true, false, cond}
-use mathlib.Core.List.{List, [], _∷_, _++_, append-assoc}
+use mathlib.Core.List.{List, [], _∷_, _++_}
 use Prim.Native.Nat.{ℕ, zero, suc, _+_, _-_, _≤_, _<_}
 use native.Mathlib.Decide.{decLt}
 use native.Mathlib.Omega.{arith}
-use lib.ListN.{length, drop, length-drop}
-use lib.Dec.{leb, ltb}
+use lib.ListN.{length, length-drop}
 use borrow.Author.Tests.{lt-ltb, le-ltb, lt-leb, le-leb}
 use Rattle.form.specs.Form.{first}
 use Rattle.reading.specs.Reading.{readAt}
@@ -16,7 +14,7 @@ use Rattle.reading.specs.declared.Found.the-variants.{End, Refused, Record}
 use Rattle.trace.proofs.Records.{stands, takes-a-byte}
 use Rattle.trace.proofs.Wholes.{first-right}
 use Rattle.runner.specs.Listing.{Point, Listed, unread, more, eventListed, listedAs, listed, listedIn, listedFrom, textOf, linesFrom}
-use Rattle.runner.specs.Filling.{Lines, lineRoom, none, behind, fitting}
+use Rattle.runner.specs.Filling.{lineRoom, none, behind, fitting}
 
 -- the point behind a line: of the same trace, further on, and its index still at most its place
 pub record Ahead (p q : Point) : Type 0 where

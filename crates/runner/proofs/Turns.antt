@@ -1,5 +1,5 @@
 -- One turn: what the monitor and the line's writer leave is the listing's next line and the point behind it. Assumes nothing.
-use mathlib.Core.Path.{_≡_, refl, sym, ap, _∙_}
+use mathlib.Core.Path.{_≡_, sym, ap, _∙_}
 use mathlib.Core.List.{List}
 use Prim.Native.Nat.{ℕ, _+_, _-_, _≤_, _<_}
 use native.Mathlib.Nat.{add-zero, le-of-eq}
@@ -17,7 +17,7 @@ use Rattle.trace.proofs.Records.{stands, takes-a-byte}
 use Rattle.trace.proofs.Wholes.{first-right}
 use Rattle.stepping.specs.Left.{Left, leaves, stepped}
 use Rattle.lines.specs.Lines.{decimal, line, refusedLine, Put}
-use Rattle.runner.specs.Listing.{Point, Listed, point, supplyOf, unread, shown, shownLength, eventLine, behind, outcomeAt, eventListed, listedAs, listed}
+use Rattle.runner.specs.Listing.{Point, Listed, point, supplyOf, unread, shownLength, eventLine, behind, outcomeAt, eventListed, listedAs, listed}
 use Rattle.runner.specs.Filling.{left, endedFill, turns}
 use Rattle.runner.specs.declared.Run.{Run}
 use Rattle.runner.specs.declared.Filled.{Filled}
