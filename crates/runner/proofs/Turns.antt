@@ -23,6 +23,12 @@ use Rattle.runner.specs.declared.Run.{Run}
 use Rattle.runner.specs.declared.Filled.{Filled}
 use Rattle.runner.proofs.Showing.{shown-fits, shown-front, length-buffer}
 
+-- n bytes at the front of an answer buffer, which is as long as it was before
+pub record Shows (n : ℕ) (buffer before : List ℕ) : Type 0 where
+  pub within : n ≤ length buffer
+  pub exact : n ≡ length (take n buffer)
+  pub long : length buffer ≡ length before
+
 -- an event, where l is what the monitor leaves, and n bytes of its answer buffer are shown
 module _ (trace : List ℕ) (run : Run) (frames store buffer : List ℕ) (e : Event) (next : ℕ) (new supply : List ℕ) {l : Left} {n : ℕ}
     (signed : supply ≡ supplyOf trace)
@@ -34,14 +40,15 @@ module _ (trace : List ℕ) (run : Run) (frames store buffer : List ℕ) (e : Ev
   left-by : l ≡ leaves (outcomeAt p e new)
   left-by = rw signed at does
 
-  pub long-buffer : length (l .buffer) ≡ length buffer
-  long-buffer = rw left-by (length-buffer (run .setup) (run .state) frames store (supplyOf trace) new buffer e)
-
-  pub shown-in : n ≤ length (l .buffer)
-  shown-in = rw (some, left-by) (shown-fits (run .setup) (run .state) frames store (supplyOf trace) new buffer e)
-
-  pub shown-long : n ≡ length (take n (l .buffer))
-  shown-long = sym (length-take-le n (l .buffer) shown-in)
+  pub shows : Shows n (l .buffer) buffer
+  shows =
+      let fits : n ≤ length (l .buffer) =
+      rw (some, left-by) (shown-fits (run .setup) (run .state) frames store (supplyOf trace) new buffer e) in
+      record {
+        within = fits;
+        exact = sym (length-take-le n (l .buffer) fits);
+        long = rw left-by (length-buffer (run .setup) (run .state) frames store (supplyOf trace) new buffer e);
+      }
 
   same-line : line (run .index) (decimal (kindOf e)) (l .answer) (take n (l .buffer)) ≡ eventLine (run .index) e (outcomeAt p e new)
   unfolding eventLine

@@ -1,6 +1,9 @@
--- `runner::event_turn` meets its contract.
+-- `runner::event_turn` meets its contract: what the monitor leaves is the outcome of the listing's step, and what the line shows of
+-- the answer stands at the front of its buffer.
+use mathlib.Core.List.{List}
+use Prim.Native.Nat.{ℕ}
 use native.Mathlib.Omega.{arith}
-use Rattle.runner.proofs.Turns.{long-buffer, shown-in, shown-long, event-turns}
+use Rattle.runner.proofs.Turns.{Shows, shows, event-turns}
 use borrow.Author.Needs.{needs}
 use Rattle.runner.proofs.event_turn.Statement.{statement}
 use Rattle.runner.proofs.event_turn.Tie as tie
@@ -17,23 +20,29 @@ shown-length-requires c κs = search needs
 kind-requires : tie.Need-kind-requires
 kind-requires c κs = search needs
 
+-- what is shown, once the monitor has answered
+abbrev entry : tie.After-shown-length → tie.Start
+entry c = c .before .before .before .before .before .before .before .before .before .before .before .before .before .before .before .before .before .before .before .before .before
+
+abbrev left-answer : tie.After-shown-length → List ℕ
+left-answer c = c .before .before .before .before .before .before .before .before .step .last .1 .1 .1 .1 .1 .1 .1 .0
+
+shown : (c : tie.After-shown-length) → Shows (c .shown-length .result) (left-answer c) ((entry c) .args .answer .now)
+shown c = shows ((entry c) .args .trace .now) ((entry c) .args .run) ((entry c) .args .frames .now) ((entry c) .args .store .now) ((entry c) .args .answer .now) ((entry c) .args .event) ((entry c) .args .next) ((entry c) .args .«data» .now) _ (c .before .before .before .before .before .before .before .before .before .before .before .before .supply .ensures) (c .before .before .before .before .before .before .before .before .step .ensures) (c .shown-length .ensures)
+
 slice-reshare-prefix-event-line : tie.Need-slice-reshare-prefix-event-line
-slice-reshare-prefix-event-line c =
-    let a = c .before .before .before .before .before .before .before .before .before .before .before .before .before .before .before .before .before .before .before .before .before .before .before .args in
-    shown-in (a .trace .now) (a .run) (a .frames .now) (a .store .now) (a .answer .now) (a .event) (a .next) (a .«data» .now) _ (c .before .before .before .before .before .before .before .before .before .before .before .before .before .before .supply .ensures) (c .before .before .before .before .before .before .before .before .before .before .step .ensures) (c .before .before .shown-length .ensures)
+slice-reshare-prefix-event-line c = shown (c .before .before) .within
 
 slice-aggregate-event-line : tie.Need-slice-aggregate-event-line
-slice-aggregate-event-line c =
-    let a = c .before .before .before .before .before .before .before .before .before .before .before .before .before .before .before .before .before .before .before .before .before .before .before .before .args in
-    shown-long (a .trace .now) (a .run) (a .frames .now) (a .store .now) (a .answer .now) (a .event) (a .next) (a .«data» .now) _ (c .before .before .before .before .before .before .before .before .before .before .before .before .before .before .before .supply .ensures) (c .before .before .before .before .before .before .before .before .before .before .before .step .ensures) (c .before .before .before .shown-length .ensures)
+slice-aggregate-event-line c = shown (c .before .before .before) .exact
 
 event-line-requires : tie.Need-event-line-requires
 event-line-requires c κs =
-    let a = c .before .before .before .before .before .before .before .before .before .before .before .before .before .before .before .before .before .before .before .before .before .before .before .before .args in
-    omega (arith, c .before .before .before .before .before .before .before .before .before .before .before .before .before .before .before .before .before .before .before .before .before .before .before .before .pre .1, shown-in (a .trace .now) (a .run) (a .frames .now) (a .store .now) (a .answer .now) (a .event) (a .next) (a .«data» .now) _ (c .before .before .before .before .before .before .before .before .before .before .before .before .before .before .before .supply .ensures) (c .before .before .before .before .before .before .before .before .before .before .before .step .ensures) (c .before .before .before .shown-length .ensures), shown-long (a .trace .now) (a .run) (a .frames .now) (a .store .now) (a .answer .now) (a .event) (a .next) (a .«data» .now) _ (c .before .before .before .before .before .before .before .before .before .before .before .before .before .before .before .supply .ensures) (c .before .before .before .before .before .before .before .before .before .before .before .step .ensures) (c .before .before .before .shown-length .ensures), long-buffer (a .trace .now) (a .run) (a .frames .now) (a .store .now) (a .answer .now) (a .event) (a .next) (a .«data» .now) _ (c .before .before .before .before .before .before .before .before .before .before .before .before .before .before .before .supply .ensures) (c .before .before .before .before .before .before .before .before .before .before .before .step .ensures) (c .before .before .before .shown-length .ensures))
+    let x = shown (c .before .before .before) in
+    omega (arith, (entry (c .before .before .before)) .pre .1, x .within, x .exact, x .long)
 
 add-t31 : tie.Need-add-t31
-add-t31 c = omega (arith, c .before .before .before .before .before .before .before .before .before .before .before .before .before .before .before .before .before .before .before .before .before .before .before .before .before .before .before .before .before .pre .0, c .before .before .before .before .before .before .before .before .before .before .before .before .before .before .before .before .before .before .before .before .before .before .before .before .before .before .before .before .before .fits .next)
+add-t31 c = let s = entry (c .before .before .before .before .before .before .before .before) in omega (arith, s .pre .0, s .fits .next)
 
 same-length : tie.Need-same-length
 same-length c = search needs
@@ -48,10 +57,11 @@ same-length-4 : tie.Need-same-length-4
 same-length-4 c = search needs
 
 returns : tie.Need-returns
-returns c =
-    let a = c .before .before .before .before .before .before .before .before .before .before .before .before .before .before .before .before .before .before .before .before .before .before .before .before .before .before .before .before .before .args in (
-      event-turns (a .trace .now) (a .run) (a .frames .now) (a .store .now) (a .answer .now) (a .event) (a .next) (a .«data» .now) _ (c .before .before .before .before .before .before .before .before .before .before .before .before .before .before .before .before .before .before .before .before .supply .ensures) (c .before .before .before .before .before .before .before .before .before .before .before .before .before .before .before .before .step .ensures) (c .before .before .before .before .before .before .before .before .shown-length .ensures) (c .before .before .before .before .before .before .kind .ensures) (c .before .before .before .before .event-line .ensures .0),
-      omega (arith, c .before .before .before .before .event-line .ensures .1, shown-in (a .trace .now) (a .run) (a .frames .now) (a .store .now) (a .answer .now) (a .event) (a .next) (a .«data» .now) _ (c .before .before .before .before .before .before .before .before .before .before .before .before .before .before .before .before .before .before .before .before .supply .ensures) (c .before .before .before .before .before .before .before .before .before .before .before .before .before .before .before .before .step .ensures) (c .before .before .before .before .before .before .before .before .shown-length .ensures), shown-long (a .trace .now) (a .run) (a .frames .now) (a .store .now) (a .answer .now) (a .event) (a .next) (a .«data» .now) _ (c .before .before .before .before .before .before .before .before .before .before .before .before .before .before .before .before .before .before .before .before .supply .ensures) (c .before .before .before .before .before .before .before .before .before .before .before .before .before .before .before .before .step .ensures) (c .before .before .before .before .before .before .before .before .shown-length .ensures), long-buffer (a .trace .now) (a .run) (a .frames .now) (a .store .now) (a .answer .now) (a .event) (a .next) (a .«data» .now) _ (c .before .before .before .before .before .before .before .before .before .before .before .before .before .before .before .before .before .before .before .before .supply .ensures) (c .before .before .before .before .before .before .before .before .before .before .before .before .before .before .before .before .step .ensures) (c .before .before .before .before .before .before .before .before .shown-length .ensures)),
+returns d =
+    let c = d .before .before .before .before .before .before .before .before in
+    let x = shown c in (
+      event-turns ((entry c) .args .trace .now) ((entry c) .args .run) ((entry c) .args .frames .now) ((entry c) .args .store .now) ((entry c) .args .answer .now) ((entry c) .args .event) ((entry c) .args .next) ((entry c) .args .«data» .now) _ (c .before .before .before .before .before .before .before .before .before .before .before .before .supply .ensures) (c .before .before .before .before .before .before .before .before .step .ensures) (c .shown-length .ensures) (d .before .before .before .before .before .before .kind .ensures) (d .before .before .before .before .event-line .ensures .0),
+      omega (arith, d .before .before .before .before .event-line .ensures .1, x .within, x .exact, x .long),
     )
 
 pub event-turn-spec : {M : Type 1} → statement M
