@@ -1,0 +1,2 @@
+-- What the lines of a listing are made of.
+pub mod Lines
