@@ -56,8 +56,8 @@ pub fn print_table() {
 fn print_row(leaf: &str, ours: &Sample, libc: &str, theirs: &Sample) {
     println!(
         "| {leaf} | {} | {libc} | {} | {:.2} ({:.2}) |",
-        ours.show_less(0.0),
-        theirs.show_less(0.0),
+        ours.show(),
+        theirs.show(),
         ours.median() / theirs.median(),
         ours.least() / theirs.least()
     );

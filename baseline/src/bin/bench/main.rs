@@ -88,13 +88,13 @@ fn part_a() {
 fn part_b(contest: &Contest, program: &str) -> Result<(), Box<dyn Error>> {
     println!("(b) {program} against the Rust program, on the same traces.\n");
     println!(
-        "Times are of the whole process in ms, less its time for an empty trace ({}): the median of {} runs in turn, the\n\
-         quartiles in brackets. It is the processor's time as the kernel counts it, so that waiting for a processor does not\n\
-         count (elapsed time where the kernel does not tell). \"No test\" is Rust without the soundness test at every event. A\n\
-         ratio is of the medians, and in brackets of the least times. Standard input is a file that was read before, standard\n\
-         output is /dev/null. Every process clears its own frames and store at its start; nothing else is cleared. A trace has\n\
-         at most 16,384 bytes: each is filled with as many events as it holds, and the process is run again and again.\n",
-        contest.empty_times(),
+        "Times are of the whole process in ms, less that for an empty trace right before it: the median of {} rounds, in each of\n\
+         which the three run in turn, and the quartiles in brackets. It is the processor's time as the kernel counts it, so that\n\
+         waiting for a processor does not count (elapsed time where the kernel does not tell). \"No test\" is Rust without the\n\
+         soundness test at every event. A ratio is of the two times of one round, its median and quartiles. Standard input is a\n\
+         file that was read before, standard output is /dev/null. Every process clears its own frames and store at its start;\n\
+         nothing else is cleared. A trace has at most 16,384 bytes: each is filled with as many events as it holds, and the\n\
+         process is run again and again.\n",
         contest.runs()
     );
     let workloads = [

@@ -73,21 +73,20 @@ fn processor_time(process: u32) -> Option<f64> {
     (nanoseconds > 0.0).then_some(nanoseconds / 1e6)
 }
 
-/// The three contestants, how often each runs, a file for the trace, and each one's time for an empty trace.
+/// The three contestants, how often each runs, and files for a trace and for an empty one.
 pub struct Contest {
     contestants: [Contestant; 3],
     runs: usize,
     file: PathBuf,
-    empty: [Sample; 3],
+    empty: PathBuf,
 }
 
 impl Contest {
-    /// Times the empty trace.
+    /// Writes the empty trace.
     pub fn new(contestants: [Contestant; 3], runs: usize) -> Result<Contest, Box<dyn Error>> {
-        let file = std::env::temp_dir().join(format!("bench-{}.trace", std::process::id()));
-        let nothing = [0.0; 3].map(|zero| Sample::new(vec![zero]));
-        let mut contest = Contest { contestants, runs, file, empty: nothing };
-        contest.empty = contest.samples(&[])?;
+        let file = |name: &str| std::env::temp_dir().join(format!("bench-{}-{name}.trace", std::process::id()));
+        let contest = Contest { contestants, runs, file: file("full"), empty: file("empty") };
+        fs::write(&contest.empty, [])?;
         Ok(contest)
     }
 
@@ -96,25 +95,22 @@ impl Contest {
         self.runs
     }
 
-    /// The times of the empty trace, in the order of the table.
-    pub fn empty_times(&self) -> String {
-        let times: Vec<String> = self.empty.iter().map(|sample| format!("{:.2}", sample.median())).collect();
-        times.join(", ")
-    }
-
-    /// Times each contestant on the trace, in turn, after one run of each that is not counted.
-    fn samples(&self, trace: &[u8]) -> Result<[Sample; 3], Box<dyn Error>> {
+    /// Times each contestant on the trace, in turn, after one round that is not counted. Each time is less that of an empty
+    /// trace taken right before it: a machine that is now faster and now slower is then mostly the same for both.
+    fn rounds(&self, trace: &[u8]) -> Result<Vec<[f64; 3]>, Box<dyn Error>> {
         fs::write(&self.file, trace)?;
-        let mut times = [vec![], vec![], vec![]];
+        let mut rounds = vec![];
         for run in 0..self.runs + 1 {
-            for (contestant, times) in self.contestants.iter().zip(&mut times) {
-                let time = contestant.time(&self.file)?;
-                if run > 0 {
-                    times.push(time);
-                }
+            let mut round = [0.0; 3];
+            for (contestant, time) in self.contestants.iter().zip(&mut round) {
+                let empty = contestant.time(&self.empty)?;
+                *time = contestant.time(&self.file)? - empty;
+            }
+            if run > 0 {
+                rounds.push(round);
             }
         }
-        Ok(times.map(Sample::new))
+        Ok(rounds)
     }
 
     /// Refuses a workload on which the listings differ, or in which an event is refused.
@@ -144,28 +140,28 @@ impl Contest {
 
     /// Times one workload and prints its row.
     fn print_row(&self, workload: &Workload) -> Result<(), Box<dyn Error>> {
-        let samples = self.samples(&workload.trace)?;
-        let shown = [0, 1, 2].map(|i| samples[i].show_less(self.empty[i].median()));
-        let medians = [0, 1, 2].map(|i| samples[i].median() - self.empty[i].median());
-        let leasts = [0, 1, 2].map(|i| samples[i].least() - self.empty[i].least());
-        let ratio = |to: usize| format!("{:.2} ({:.2})", medians[0] / medians[to], leasts[0] / leasts[to]);
+        let rounds = self.rounds(&workload.trace)?;
+        let sample = |of: &dyn Fn(&[f64; 3]) -> f64| Sample::new(rounds.iter().map(of).collect());
+        let times = [0, 1, 2].map(|i| sample(&|round| round[i]));
+        let shown: Vec<String> = times.iter().map(Sample::show).collect();
+        let ratios = [1, 2].map(|to| sample(&|round| round[0] / round[to]).show());
         println!(
-            "| {} | {} | {} | {} | {} | {} | {:.0} |",
+            "| {} | {} | {} | {} | {} | {:.0} |",
             workload.name,
             workload.trace.len(),
             workload.events,
             shown.join(" | "),
-            ratio(1),
-            ratio(2),
-            medians[0] * 1e6 / workload.events as f64
+            ratios.join(" | "),
+            times[0].median() * 1e6 / workload.events as f64
         );
         Ok(())
     }
 }
 
 impl Drop for Contest {
-    /// Removes the trace's file; where that fails there is nothing to be done.
+    /// Removes the files; where that fails there is nothing to be done.
     fn drop(&mut self) {
         let _ = fs::remove_file(&self.file);
+        let _ = fs::remove_file(&self.empty);
     }
 }

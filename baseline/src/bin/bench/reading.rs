@@ -36,7 +36,7 @@ pub fn print_lines() {
         let trace = records(shuffled);
         check(&trace);
         let times = time(&trace);
-        let (shown, least) = (times.show_less(0.0), times.least());
+        let (shown, least) = (times.show(), times.least());
         println!("- {name}: {shown} ns a record, least {least:.2} ({RECORDS} records, {} bytes)", trace.len());
     }
 }

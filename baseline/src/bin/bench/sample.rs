@@ -27,9 +27,9 @@ impl Sample {
         self.at(0.0)
     }
 
-    /// The median less a number, then the quartiles less that number in brackets.
-    pub fn show_less(&self, number: f64) -> String {
-        let [median, low, high] = [0.5, 0.25, 0.75].map(|share| self.at(share) - number);
+    /// The median, then the quartiles in brackets.
+    pub fn show(&self) -> String {
+        let [median, low, high] = [0.5, 0.25, 0.75].map(|share| self.at(share));
         format!("{median:.2} [{low:.2}, {high:.2}]")
     }
 }
