@@ -5,8 +5,8 @@ use mathlib.Core.Path.{_≡_, refl, ap, _∙_}
 use mathlib.Core.List.{List}
 use mathlib.Core.Bool.{Bool, false, _&&_, not, and-true}
 use Prim.Native.Nat.{ℕ, zero, suc, _+_, _*_, _%_, _≤_, _<_, min}
-use native.Mathlib.Nat.{mul-le-mul, mod-eq-of-lt, min-eq-left, min-eq-right, zero-mul, suc-mul}
-use native.Mathlib.Decide.{decLt}
+use native.Mathlib.Nat.{mul-le-mul, mod-eq-of-lt, min-eq-left, min-eq-right, zero-mul, mul-zero, suc-mul}
+use native.Mathlib.Decide.{decLt, decLe}
 use native.Mathlib.Omega.{arith}
 use lib.ListN.{length, getD, List·getD-eq-default}
 use lib.Dec.{ltb}
@@ -83,3 +83,28 @@ module _ (s : Setup) (t : Tables) (long : Long t) where
 -- a row's number times its entries is small
 pub product-small : (d w : ℕ) → d < 256 → w ≤ 256 → d * w ≤ 255 * 256
 product-small d w hd hw = mul-le-mul {n₁ = d} {m₁ = w} {n₂ = 255} {m₂ = 256} (omega arith) hw
+
+-- a product is capped where its factors were: past the cap it is past it either way
+pub product-capped : (d w : ℕ) → min (min d 256 * min w 256) 256 ≡ min (d * w) 256
+product-capped d w = go (decLt 0 d) (decLt 0 w) (decLe d 256) (decLe w 256)
+  where
+    past : 256 ≤ min d 256 * min w 256 → 256 ≤ d * w → min (min d 256 * min w 256) 256 ≡ min (d * w) 256
+    past x y = omega (arith, x, y)
+
+    go : Dec (0 < d) → Dec (0 < w) → Dec (d ≤ 256) → Dec (w ≤ 256) → min (min d 256 * min w 256) 256 ≡ min (d * w) 256
+    go (no a) b p q =
+        let e : d ≡ 0 = omega (arith, a) in
+        rw (e, zero-mul, zero-mul)
+    go (yes a) (no b) p q =
+        let e : w ≡ 0 = omega (arith, b) in
+        rw (e, mul-zero, mul-zero)
+    go (yes a) (yes b) (no p) q =
+        past (mul-le-mul {n₁ = 256} {m₁ = 1} {n₂ = min d 256} {m₂ = min w 256} (omega (arith, p)) (omega (arith, b)))
+        (mul-le-mul {n₁ = 256} {m₁ = 1} {n₂ = d} {m₂ = w} (omega (arith, p)) (omega (arith, b)))
+    go (yes a) (yes b) (yes p) (no q) =
+        past (mul-le-mul {n₁ = 1} {m₁ = 256} {n₂ = min d 256} {m₂ = min w 256} (omega (arith, a)) (omega (arith, q)))
+        (mul-le-mul {n₁ = 1} {m₁ = 256} {n₂ = d} {m₂ = w} (omega (arith, a)) (omega (arith, q)))
+    go (yes a) (yes b) (yes p) (yes q) =
+        let e : min d 256 ≡ d = omega (arith, p) in
+        let f : min w 256 ≡ w = omega (arith, q) in
+        rw (e, f)

@@ -6,9 +6,9 @@ use mathlib.Core.Bool.{Bool, true, false, _&&_, _||_, not, cond, and-true, and-f
 use mathlib.Core.Logic.{_⊎_, inl, inr, ⊎-elim}
 use Prim.Native.Nat.{ℕ, suc, _+_, _*_, _≤_, _<_}
 use native.Mathlib.Nat.{zero-mul, mul-zero, add-mul, one-mul, mul-le-mul-right}
-use native.Mathlib.Decide.{decLt}
+use native.Mathlib.Decide.{decLt, decLe}
 use native.Mathlib.Omega.{arith}
-use lib.ListN.{List·getD-eq-default}
+use lib.ListN.{length, drop, drop-of-length-le, List·getD-eq-default}
 use lib.Dec.{ltb}
 use lib.Arith.{digits-lt, digits-div, digits-mod}
 use borrow.Author.Tests.{lt-ltb, le-ltb, eq-eqb, ne-eqb}
@@ -16,7 +16,7 @@ use Rattle.rules.specs.Bytes.{allOf, allFrom}
 use Rattle.rules.specs.Sizes.{maxDomains, domainIn}
 use Rattle.rules.specs.Records.{emptyDomain, lifeOf, isEmpty}
 use Rattle.rules.specs.Sound.{begun, mappingSound, placeSound, untouched, ownedSound, pageSound}
-use Rattle.entries.specs.Walk.{Long, Stands, firstSpot, nextSpot, asFresh}
+use Rattle.entries.specs.Walk.{maxEntries, Long, Stands, firstSpot, nextSpot, ownedEntries, asFresh, untouchedFrom}
 use Rattle.entries.specs.declared.spots.Spot.{Spot}
 use Rattle.rules.specs.declared.Setup.{Setup}
 use Rattle.rules.specs.declared.Tables.{Tables}
@@ -141,15 +141,6 @@ page-at s t i at r long h = ⊎-elim none some (h .which)
 
 -- Behind the setup's domains no entry is for a page, so that the rules ask of each that it is as freshly started
 
-behind : (s : Setup) (i : ℕ) (at : Spot) → Stands s i at → s .domains ≤ at .domain → s .domains * s .pages ≤ i
-behind s i at h past = ⊎-elim none some (h .which)
-  where
-    none : (s .pages ≡ 0) × (maxDomains ≤ at .domain) → s .domains * s .pages ≤ i
-    none w = rw (w .0, mul-zero) (omega arith)
-
-    some : (at .page < s .pages) × (i ≡ at .domain * s .pages + at .page) → s .domains * s .pages ≤ i
-    some w = omega (arith, mul-le-mul-right (s .pages) past, w .1)
-
 fresh-behind : (s : Setup) (t : Tables) (i : ℕ) (l : List PageRecord) → s .domains * s .pages ≤ i
     → allFrom (pageSound s t) i l ≡ allFrom asFresh i l
 unfolding allFrom pageSound
@@ -157,6 +148,13 @@ fresh-behind s t i [] h = refl
 fresh-behind s t i (r ∷ rs) h =
     rw (le-ltb i (s .domains * s .pages) h) (ap (λ (b : Bool). untouched r && b) (fresh-behind s t (suc i) rs (omega arith)))
 
-pub rest-fresh : (s : Setup) (t : Tables) (i : ℕ) (at : Spot) (l : List PageRecord) → Stands s i at → s .domains ≤ at .domain
-    → allFrom (pageSound s t) i l ≡ allFrom asFresh i l
-rest-fresh s t i at l h past = fresh-behind s t i l (behind s i at h past)
+pub rest-fresh : (s : Setup) (t : Tables) (i : ℕ) (l : List PageRecord) → length l ≡ maxEntries → ownedEntries s ≤ i
+    → allFrom (pageSound s t) i (drop i l) ≡ untouchedFrom i l
+unfolding untouchedFrom allFrom
+rest-fresh s t i l long past = go (decLe (s .domains * s .pages) maxEntries)
+  where
+    go : Dec (s .domains * s .pages ≤ maxEntries) → allFrom (pageSound s t) i (drop i l) ≡ allFrom asFresh i (drop i l)
+    go (yes h) = fresh-behind s t i (drop i l) (omega (arith, past))
+    go (no h) =
+        let none : length l ≤ i = omega (arith, past, long) in
+        rw (drop-of-length-le l none)

@@ -81,6 +81,10 @@ nextSpot s at =
     cond (ltb (at .page + 1) (s .pages)) (record { domain = at .domain; page = at .page + 1 })
     (record { domain = at .domain + 1; page = 0 })
 
+-- how many entries are for pages of the setup's domains
+abbrev pub ownedEntries : Setup → ℕ
+ownedEntries s = min (s .domains * s .pages) maxEntries
+
 -- the entries from i on are as freshly started
 abbrev pub asFresh : ℕ → PageRecord → Bool
 asFresh i r = untouched r

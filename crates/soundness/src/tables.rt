@@ -2,11 +2,12 @@
 // number taken modulo that table's length, and hands the two on; no function that is called for an entry is passed a table.
 ghost use mathlib.Core.Path.{_≡_};
 ghost use Rattle.rules.specs.Bytes.{allFrom};
-ghost use Rattle.entries.specs.Walk.{untouchedFrom};
+ghost use Rattle.entries.specs.Walk.{ownedEntries, untouchedFrom};
 ghost use Rattle.rules.specs.Sound.{domainSound, contextSound, savedSound, pageSound, frameSound};
 use entries::ENTRIES;
 use entries::spots;
 use entries::values::both;
+use entries::values::least;
 use rules::DomainRecord;
 use rules::PageRecord;
 use rules::Registers;
@@ -61,6 +62,15 @@ pub fn saved_sound(setup: Setup, saved: [Registers; Setup::MAX_CONTEXTS]) -> boo
     true
 }
 
+// How many entries of the page table are for pages of the setup's domains, as far as the table goes.
+fn owned(setup: Setup) -> usize
+    ensures { λ r. ⌜ r ≡ ownedEntries setup ⌝ }
+{
+    let domains = least(setup.domains, ENTRIES);
+    let pages = least(setup.pages, ENTRIES);
+    least(domains * pages, ENTRIES)
+}
+
 // Whether the entries from start on are as freshly started. Every one is looked at: a loop with no way out does several at once.
 fn rest_untouched(pages: [PageRecord; ENTRIES], start: usize) -> bool
     ensures { λ r. ⌜ r ≡ untouchedFrom start pages ⌝ }
@@ -81,12 +91,10 @@ pub fn pages_sound(setup: Setup, t: Tables) -> bool
     ensures { λ r. ⌜ r ≡ allFrom (pageSound setup t) 0 (t .pages) ⌝ }
 {
     let used = t.used;
+    let end = owned(setup);
     let mut at = spots::first_spot(setup);
     let mut i = 0;
-    while i < ENTRIES {
-        if setup.domains <= at.domain {
-            return rest_untouched(t.pages, i);
-        }
+    while i < end {
         let page = t.pages[i];
         let place = page.place;
         let d = at.domain % Setup::MAX_DOMAINS;
@@ -98,6 +106,9 @@ pub fn pages_sound(setup: Setup, t: Tables) -> bool
         }
         at = spots::next_spot(setup, at);
         i += 1;
+    }
+    if end < ENTRIES {
+        return rest_untouched(t.pages, i);
     }
     true
 }

@@ -1,13 +1,12 @@
 -- `pages_sound` meets its contract. The loop's invariant: the whole test is that of the entries from i on, and the spot is that
 -- of entry i.
-use mathlib.Core.Path.{refl, sym, ap, _∙_}
+use mathlib.Core.Path.{_≡_, refl, sym, ap, _∙_}
 use Prim.Native.Nat.{_≤_, _-_}
 use native.Mathlib.Omega.{arith}
-use lib.ListN.{drop}
 use borrow.Author.Needs.{needs}
 use Rattle.rules.specs.Records.{publicPage}
 use Rattle.rules.specs.Sound.{pageSound}
-use Rattle.entries.specs.Walk.{Stands, holderAt, untouchedFrom}
+use Rattle.entries.specs.Walk.{Stands, holderAt, ownedEntries}
 use Rattle.entries.proofs.Stands.{stands-first, stands-next, rest-fresh}
 use Rattle.soundness.proofs.Lengths.{long-tables}
 use Rattle.entries.proofs.Walks.{Walked, walked-none, walked-more, walked-fails, walked-all}
@@ -15,32 +14,24 @@ use Rattle.soundness.proofs.tables.pages_sound.Statement.{statement}
 use Rattle.soundness.proofs.tables.pages_sound.Tie as tie
 
 abbrev Inv-loop : tie.InvT-loop
-Inv-loop setup t used at₀ i₀ at i = (i ≤ 256) × Walked (pageSound setup t) (t .pages) i × Stands setup i at
+Inv-loop setup t used end at₀ i₀ at i =
+    (i ≤ end) × (end ≤ 256) × (ownedEntries setup ≡ end) × Walked (pageSound setup t) (t .pages) i × Stands setup i at
 
 abbrev μ-loop : tie.MeasureT-loop
-μ-loop setup t used at₀ i₀ at i = 256 - i
+μ-loop setup t used end at₀ i₀ at i = end - i
+
+owned-requires : tie.Need-owned-requires Inv-loop μ-loop
+owned-requires c κs = search needs
 
 first-spot-requires : tie.Need-first-spot-requires Inv-loop μ-loop
 first-spot-requires c κs = search needs
 
 loop-holds : tie.Need-loop-holds Inv-loop μ-loop
 loop-holds c =
-    let s = c .before .args .setup in
-    let t = c .before .args .t2 in
-    (omega arith, walked-none (pageSound s t) publicPage (t .pages), rw (c .first-spot .ensures) (stands-first s))
-
-rest-untouched-requires : tie.Need-rest-untouched-requires Inv-loop μ-loop
-rest-untouched-requires c κs = search needs
-
-returns : tie.Need-returns Inv-loop μ-loop
-unfolding untouchedFrom
-returns c =
-    let x = c .before .before .before .before .before .before in
-    let s = x .before .before .args .setup in
-    let t = x .before .before .args .t2 in
-    c .rest-untouched .ensures
-    ∙ sym (rest-fresh s t (x .loop .i) (x .loop .at) (drop (x .loop .i) (t .pages)) (x .loop .inv .2) (c .before .before .if1 .taken))
-    ∙ sym (x .loop .inv .1)
+    let s = c .before .before .args .setup in
+    let t = c .before .before .args .t2 in
+    let owned = c .before .owned .ensures in
+    (omega arith, omega (arith, owned), sym owned, walked-none (pageSound s t) publicPage (t .pages), rw (c .first-spot .ensures) (stands-first s))
 
 mul-page : tie.Need-mul-page Inv-loop μ-loop
 mul-page c = search needs
@@ -63,16 +54,16 @@ element-copy-out-holder c = search needs
 page-sound-requires : tie.Need-page-sound-requires Inv-loop μ-loop
 page-sound-requires c κs = search needs
 
-returns-2 : tie.Need-returns-2 Inv-loop μ-loop
-returns-2 c =
-    let x = c .before .before .before .before .before .before .before .before .before .before .before in
-    let s = x .before .before .args .setup in
-    let t = x .before .before .args .t2 in
-    let long = long-tables t _ (x .before .before .good .1 .0) in
-    walked-fails (pageSound s t) publicPage (t .pages) (x .loop .i) (x .loop .inv .1) (omega arith)
-    (c .before .page-sound .ensures t (x .loop .i) long (x .loop .inv .2) refl refl
+returns : tie.Need-returns Inv-loop μ-loop
+returns c =
+    let x = c .before .before .before .before .before .before .before .before in
+    let s = x .before .before .before .args .setup in
+    let t = x .before .before .before .args .t2 in
+    let long = long-tables t _ (x .before .before .before .good .1 .0) in
+    walked-fails (pageSound s t) publicPage (t .pages) (x .loop .i) (x .loop .inv .3) (omega arith)
+    (c .before .page-sound .ensures t (x .loop .i) long (x .loop .inv .4) refl refl
     (ap (holderAt t) (sym (c .before .before .before .frame-at .ensures))))
-    (c .if2 .taken)
+    (c .if1 .taken)
 
 next-spot-requires : tie.Need-next-spot-requires Inv-loop μ-loop
 next-spot-requires c κs = search needs
@@ -85,25 +76,40 @@ loop-less c = search needs
 
 loop-again : tie.Need-loop-again Inv-loop μ-loop
 loop-again c =
-    let x = c .before .before .before .before .before .before .before .before .before .before .before .before in
-    let s = x .before .before .args .setup in
-    let t = x .before .before .args .t2 in
-    let long = long-tables t _ (x .before .before .good .1 .0) in (
+    let x = c .before .before .before .before .before .before .before .before .before in
+    let s = x .before .before .before .args .setup in
+    let t = x .before .before .before .args .t2 in
+    let long = long-tables t _ (x .before .before .before .good .1 .0) in (
       omega arith,
-      walked-more (pageSound s t) publicPage (t .pages) (x .loop .i) (x .loop .inv .1) (omega arith)
-          (c .before .before .page-sound .ensures t (x .loop .i) long (x .loop .inv .2) refl refl
+      x .loop .inv .1,
+      x .loop .inv .2,
+      walked-more (pageSound s t) publicPage (t .pages) (x .loop .i) (x .loop .inv .3) (omega arith)
+          (c .before .before .page-sound .ensures t (x .loop .i) long (x .loop .inv .4) refl refl
           (ap (holderAt t) (sym (c .before .before .before .before .frame-at .ensures))))
-          (c .before .if2 .left),
-      rw (c .next-spot .ensures) (stands-next s (x .loop .i) (x .loop .at) (x .loop .inv .2)),
+          (c .before .if1 .left),
+      rw (c .next-spot .ensures) (stands-next s (x .loop .i) (x .loop .at) (x .loop .inv .4)),
     )
+
+rest-untouched-requires : tie.Need-rest-untouched-requires Inv-loop μ-loop
+rest-untouched-requires c κs = search needs
+
+returns-2 : tie.Need-returns-2 Inv-loop μ-loop
+returns-2 c =
+    let x = c .before .before .before .before in
+    let s = x .before .before .before .args .setup in
+    let t = x .before .before .before .args .t2 in
+    let long = long-tables t _ (x .before .before .before .good .1 .0) in
+    c .rest-untouched .ensures
+    ∙ sym (rest-fresh s t (x .loop .i) (t .pages) (long .pages) (omega (arith, x .loop .inv .2)))
+    ∙ sym (x .loop .inv .3)
 
 returns-3 : tie.Need-returns-3 Inv-loop μ-loop
 returns-3 c =
-    let x = c .before in
-    let s = x .before .before .args .setup in
-    let t = x .before .before .args .t2 in
-    let long = long-tables t _ (x .before .before .good .1 .0) in
-    walked-all (pageSound s t) publicPage (t .pages) (x .loop .i) (x .loop .inv .1) (omega arith)
+    let x = c .before .before in
+    let s = x .before .before .before .args .setup in
+    let t = x .before .before .before .args .t2 in
+    let long = long-tables t _ (x .before .before .before .good .1 .0) in
+    walked-all (pageSound s t) publicPage (t .pages) (x .loop .i) (x .loop .inv .3) (omega (arith, long .pages))
 
 pub pages-sound-spec : {M : Type 1} → statement M
 pages-sound-spec =
@@ -111,10 +117,9 @@ pages-sound-spec =
     (tie.spec
     Inv-loop
     μ-loop
+    owned-requires
     first-spot-requires
     loop-holds
-    rest-untouched-requires
-    returns
     mul-page
     element-copy-out-page
     element-copy-out-owner
@@ -122,9 +127,11 @@ pages-sound-spec =
     mul-holder
     element-copy-out-holder
     page-sound-requires
-    returns-2
+    returns
     next-spot-requires
     add-i
     loop-less
     loop-again
+    rest-untouched-requires
+    returns-2
     returns-3)
