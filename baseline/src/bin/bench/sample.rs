@@ -23,6 +23,7 @@ impl Sample {
     }
 
     /// The least, which other work on the machine disturbs least.
+    #[cfg(feature = "leaves")]
     pub fn least(&self) -> f64 {
         self.at(0.0)
     }
