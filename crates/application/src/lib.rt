@@ -51,7 +51,7 @@ fn own_of(setup: Setup, tables: Tables, c: Ctc, v: Gvpn) -> Own
     let running = tables.contexts[context];
     let activity = running.activity;
     let domain = conditions::domain_where(activity);
-    let number = moving::page_number(setup, domain, v);
+    let number = core_seal_bytes::page_number(setup, domain, v);
     let page = tables.pages[number];
     let mapping = page.mapping;
     let frame = conditions::frame_where(mapping);
@@ -110,7 +110,7 @@ fn zero_if_clear(place: Place, size: usize, frames: &mut [u8])
 {
     match place {
         Place::Public => {}
-        Place::Clear(f, _) => pages::zero_page(frames, size, f.0 as usize),
+        Place::Clear(f, _) => core_bytes::zero_page(frames, size, f.0 as usize),
         Place::Sealed(_) => {}
     }
 }
@@ -169,7 +169,7 @@ pub fn cloak(
         unveils: 0,
     };
     let sealed = sealing::seal(setup, work, frames, store, supply, f);
-    pages::zero_page(frames, setup.size, f.0 as usize);
+    core_bytes::zero_page(frames, setup.size, f.0 as usize);
     let before = sealed.tables;
     let after = cloak_records(before, own, v);
     stepping::told(after, saved, 0, sealed.seals, sealed.unveils)
@@ -197,7 +197,7 @@ pub fn uncloak(
     let page = tables.pages[number];
     let place = page.place;
     zero_if_clear(place, setup.size, frames);
-    pages::zero_page(store, setup.size, number);
+    core_bytes::zero_page(store, setup.size, number);
     let opened = open_records(tables, place);
     let after = publish_record(opened, number);
     stepping::told(after, saved, 0, 0, 0)
@@ -235,7 +235,7 @@ pub fn read(
     if brought.number != 0 {
         return stepping::told(after, saved, brought.number, done.seals, done.unveils);
     }
-    pages::give_span(frames, setup.size, f.0 as usize, span.off, span.len, answer);
+    core_bytes::give_span(frames, setup.size, f.0 as usize, span.off, span.len, answer);
     stepping::told(after, saved, 0, done.seals, done.unveils)
 }
 
@@ -271,7 +271,7 @@ pub fn write(
     if brought.number != 0 {
         return stepping::told(before, saved, brought.number, done.seals, done.unveils);
     }
-    pages::put_span(frames, setup.size, f.0 as usize, span.off, data);
+    core_bytes::put_span(frames, setup.size, f.0 as usize, span.off, data);
     let number = own.number;
     let after = mark_record(before, number);
     stepping::told(after, saved, 0, done.seals, done.unveils)

@@ -99,11 +99,11 @@ fn start(name: &[u8], setup: Setup, lent: Lengths) {
         world::front(&mut store, lent.store),
         part(&supply, lent.supply),
     );
-    lines::told(b"start ", name, started.answer);
-    lines::kept(pages::same(&frames, &frames_before));
-    lines::kept(pages::same(&store, &store_before));
-    lines::kept(same::states(started.state, State::fresh()));
-    lines::end();
+    listing_line::told(b"start ", name, started.answer);
+    listing_line::kept(core_bytes::same(&frames, &frames_before));
+    listing_line::kept(core_bytes::same(&store, &store_before));
+    listing_line::kept(same::states(started.state, State::fresh()));
+    listing_line::end();
 }
 
 // The kernel writes a byte to frame 0.
@@ -125,12 +125,12 @@ fn step(name: &[u8], setup: Setup, lent: Lengths) {
         b"!",
         &mut answer,
     );
-    lines::told(b"step ", name, stepped.answer);
-    lines::kept(pages::same(&frames, &frames_before));
-    lines::kept(pages::same(&store, &store_before));
-    lines::kept(pages::same(&answer, b"-"));
-    lines::kept(same::states(stepped.state, state));
-    lines::end();
+    listing_line::told(b"step ", name, stepped.answer);
+    listing_line::kept(core_bytes::same(&frames, &frames_before));
+    listing_line::kept(core_bytes::same(&store, &store_before));
+    listing_line::kept(core_bytes::same(&answer, b"-"));
+    listing_line::kept(same::states(stepped.state, state));
+    listing_line::end();
 }
 
 fn sizes() {

@@ -19,16 +19,16 @@ pub fn look<'a>(
     d: Asid,
     v: Gvpn,
 ) {
-    lines::text(b"look ");
-    lines::text(name);
-    lines::text(b":");
+    listing_line::text(b"look ");
+    listing_line::text(name);
+    listing_line::text(b":");
     let number = monitor::look_number(setup, state, frames, store, d, v);
-    lines::number(number as u64);
+    listing_line::number(number as u64);
     let seen = monitor::look(setup, state, frames, store, d, v);
-    lines::number(seen.len() as u64);
-    lines::text(b" [");
-    lines::text(seen);
-    lines::text(b"]\n");
+    listing_line::number(seen.len() as u64);
+    listing_line::text(b" [");
+    listing_line::text(seen);
+    listing_line::text(b"]\n");
 }
 
 // Page 0 is Sealed and page 1 is Clear; page 1 uncloaked is Public.

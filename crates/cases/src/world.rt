@@ -130,10 +130,10 @@ pub fn step_on(words: &[u8], name: &[u8], world: World, event: Event, data: &[u8
         data,
         front(&mut answer, room),
     );
-    lines::told(words, name, stepped.answer);
-    lines::kept(pages::same(&frames, &frames_before));
-    lines::kept(pages::same(&store, &store_before));
-    lines::kept(pages::same(&answer, &answer_before));
-    lines::kept(same::states(state, stepped.state));
-    lines::end();
+    listing_line::told(words, name, stepped.answer);
+    listing_line::kept(core_bytes::same(&frames, &frames_before));
+    listing_line::kept(core_bytes::same(&store, &store_before));
+    listing_line::kept(core_bytes::same(&answer, &answer_before));
+    listing_line::kept(same::states(state, stepped.state));
+    listing_line::end();
 }

@@ -180,7 +180,7 @@ fn zero_if_named(names: Named, d: Asid, frames: &mut [u8], size: usize, k: usize
     ensures { λ _. ⌜ now (frames .exit) ≡ cond (namesIn d names) (withPart size k (zeros size) (now (frames .entry))) (now (frames .entry)) ⌝ }
 {
     if names_in(names, d) {
-        pages::zero_page(frames, size, k);
+        core_bytes::zero_page(frames, size, k);
     }
 }
 
@@ -210,7 +210,7 @@ pub fn end(setup: Setup, state: State, frames: &mut [u8], store: &mut [u8], d: A
     zero_frames(setup, named, d, frames);
     let slots = setup.pages * setup.size;
     let at = d.0 as usize;
-    pages::zero_page(store, slots, at);
+    core_bytes::zero_page(store, slots, at);
     let saved = clear_saved(contexts, before, d);
     let tables = end_tables(setup, tables, d);
     State { tables, saved }

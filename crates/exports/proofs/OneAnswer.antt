@@ -3,7 +3,7 @@ use mathlib.Core.Path.{sym, _∙_}
 use mathlib.Core.List.{List}
 use Prim.Native.Nat.{ℕ}
 use denote.Ref.{now}
-use Rattle.packing.proofs.Promise.{OneAnswer, OneSight}
+use Rattle.trace_bits.proofs.Promise.{OneAnswer, OneSight}
 use Rattle.exports.specs.Told.{Handed, handed}
 use Rattle.exports.proofs.leaf_copy as leaf-copy
 use Rattle.exports.proofs.leaf_zero as leaf-zero

@@ -5,11 +5,11 @@ use mathlib.Core.List.{List, [], _∷_}
 use Prim.Native.Nat.{ℕ}
 use Rattle.rules.specs.Events.{kindOf}
 use Rattle.rules.specs.declared.Event.{Event}
-use Rattle.form.specs.Form.{first, fieldsOf}
-use Rattle.form.specs.declared.Fields.{Fields}
-use Rattle.reading.specs.Reading.{readAt, placeAfter}
-use Rattle.reading.specs.declared.Found.{Found}
-use Rattle.reading.specs.declared.Found.the-variants.{End, Refused, Record}
+use Rattle.trace_form.specs.Form.{first, fieldsOf}
+use Rattle.trace_form.specs.declared.Fields.{Fields}
+use Rattle.trace_read.specs.Reading.{readAt, placeAfter}
+use Rattle.trace_read.specs.declared.Found.{Found}
+use Rattle.trace_read.specs.declared.Found.the-variants.{End, Refused, Record}
 
 abbrev pub row : ℕ → Fields → ℕ → ℕ → List ℕ
 row kind v start len =

@@ -5,8 +5,8 @@ ghost use lib.ListN.{length};
 ghost use Rattle.rules.specs.Bytes.{zeros, sameBytes};
 ghost use Rattle.exports.specs.Leaves.{copied};
 ghost use Rattle.exports.specs.Told.{told, toldOf, handed, nextRecord};
-use reading::Found;
 use rules::Event;
+use trace_read::Found;
 
 // Every byte of dst from src, where src is as long; else none.
 #[no_mangle]
@@ -14,7 +14,7 @@ pub extern "C" fn leaf_copy(dst: &mut [u8], src: &[u8])
     ensures { λ _. ⌜ now (dst .exit) ≡ copied (now (src .entry)) (now (dst .entry)) ⌝ }
 {
     if src.len() == dst.len() {
-        pages::copy(dst, src);
+        core_bytes::copy(dst, src);
     }
 }
 
@@ -23,7 +23,7 @@ pub extern "C" fn leaf_copy(dst: &mut [u8], src: &[u8])
 pub extern "C" fn leaf_zero(dst: &mut [u8])
     ensures { λ _. ⌜ now (dst .exit) ≡ zeros (length (now (dst .entry))) ⌝ }
 {
-    pages::zero(dst);
+    core_bytes::zero(dst);
 }
 
 // Whether a and b hold the same bytes; of two lengths they don't.
@@ -31,7 +31,7 @@ pub extern "C" fn leaf_zero(dst: &mut [u8])
 pub extern "C" fn leaf_same(a: &[u8], b: &[u8]) -> bool
     ensures { λ r. ⌜ r ≡ sameBytes (now (a .entry)) (now (b .entry)) ⌝ }
 {
-    pages::same(a, b)
+    core_bytes::same(a, b)
 }
 
 // What was found, in nine numbers.
@@ -54,7 +54,7 @@ fn numbers_in(event: Event, start: usize, len: usize) -> [usize; 9]
     ensures { λ r. ⌜ r ≡ toldOf event start len ⌝ }
 {
     let kind = event.kind() as usize;
-    let v = form::fields_of(event);
+    let v = trace_form::fields_of(event);
     let first = v.first as usize;
     let second = v.second as usize;
     let third = v.third as usize;
@@ -69,7 +69,7 @@ fn numbers_in(event: Event, start: usize, len: usize) -> [usize; 9]
 pub extern "C" fn next_record(unread: &[u8], place: usize, out: &mut [usize; 9]) -> usize
     ensures { λ r. ⌜ handed r (now (out .exit)) ≡ nextRecord (now (unread .entry)) place ⌝ }
 {
-    let found = reading::record_at(unread, place);
+    let found = trace_read::record_at(unread, place);
     *out = numbers_of(found);
-    reading::place_after(place, found)
+    trace_read::place_after(place, found)
 }

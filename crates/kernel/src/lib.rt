@@ -54,7 +54,7 @@ pub fn kernel_read(
         unveils: 0,
     };
     let sealed = sealing::seal(setup, work, frames, store, supply, f);
-    pages::give_span(frames, setup.size, f.0 as usize, span.off, span.len, answer);
+    core_bytes::give_span(frames, setup.size, f.0 as usize, span.off, span.len, answer);
     let after = sealed.tables;
     stepping::told(after, saved, 0, sealed.seals, sealed.unveils)
 }
@@ -82,7 +82,7 @@ pub fn kernel_write(
         unveils: 0,
     };
     let sealed = sealing::seal(setup, work, frames, store, supply, f);
-    pages::put_span(frames, setup.size, f.0 as usize, span.off, data);
+    core_bytes::put_span(frames, setup.size, f.0 as usize, span.off, data);
     let after = sealed.tables;
     stepping::told(after, saved, 0, sealed.seals, sealed.unveils)
 }

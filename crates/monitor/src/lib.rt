@@ -24,8 +24,8 @@ pub fn start(setup: Setup, frames: &mut [u8], store: &mut [u8], supply: &[u8]) -
     let tables = fresh.tables;
     let saved = fresh.saved;
     if soundness::startable(setup, frames, store, supply) {
-        pages::zero(frames);
-        pages::zero(store);
+        core_bytes::zero(frames);
+        core_bytes::zero(store);
         return stepping::told(tables, saved, Answer::DONE, 0, 0);
     }
     stepping::told(tables, saved, Answer::NOT_ACCEPTABLE, 0, 0)

@@ -125,9 +125,9 @@ pub fn resume(
     let kept = tables.contexts[context];
     let activity = kept.activity;
     let registers = saved[context];
-    let x = registers::word(data);
-    let given = registers::resumed(activity, x, registers);
-    registers::give(given, answer);
+    let x = core_registers::word(data);
+    let given = core_registers::resumed(activity, x, registers);
+    core_registers::give(given, answer);
     tables.contexts[context] = ContextRecord {
         activity: Activity::Running(d),
     };
@@ -211,9 +211,9 @@ pub fn trap(
     let running = tables.contexts[context];
     let activity = running.activity;
     let d = conditions::domain_where(activity);
-    let registers = registers::load(data);
-    let shown = registers::shown(kind, mask, registers);
-    registers::give(shown, answer);
+    let registers = core_registers::load(data);
+    let shown = core_registers::shown(kind, mask, registers);
+    core_registers::give(shown, answer);
     tables.contexts[context] = ContextRecord {
         activity: Activity::Kept(d, kind),
     };

@@ -16,7 +16,7 @@ pub fn refusal(setup: Setup, tables: Tables, event: Event, new: usize, room: usi
     requires { ⌜ Ready setup tables ⌝ }
     ensures { λ r. ⌜ r ≡ firstOf (checks setup tables event (row setup tables event) new room) ⌝ }
 {
-    let number = shape::by_shape(setup, event, new, room);
+    let number = core_refuse_event::by_shape(setup, event, new, room);
     if number != 0 {
         return number;
     }

@@ -13,7 +13,7 @@ use Rattle.rules.specs.declared.Gvpn.{Gvpn}
 use Rattle.rules.specs.declared.Gppn.{Gppn}
 use Rattle.rules.specs.declared.Setup.{Setup}
 use Rattle.sealing.specs.Under.{during}
-use Rattle.moving.specs.Numbers.{Limited}
+use Rattle.core_seal_bytes.specs.Numbers.{Limited}
 use Rattle.sealing.specs.Asked.{Lent, Matched, Sealable, Reached, Bringable}
 use Rattle.sealing.specs.declared.Work.{Work}
 use Rattle.sealing.proofs.Enough.{ready}

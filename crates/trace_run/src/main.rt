@@ -3,11 +3,11 @@
 ghost use mathlib.Core.Path.{_≡_};
 ghost use Prim.Native.Nat.{_+_, _*_, _≤_, _<_};
 ghost use lib.ListN.{length};
-ghost use Rattle.runner.specs.Opening.{openingAt};
+ghost use Rattle.listing.specs.Opening.{openingAt};
 use libc::STDIN_FILENO;
 use libc::STDOUT_FILENO;
-use reading::Header;
 use rules::Setup;
+use trace_read::Header;
 
 // What was read: how many bytes, unless reading failed.
 struct Input {
@@ -49,9 +49,9 @@ fn write_lines(
 )
     requires { ⌜ 128 + 2 * length (now answer) ≤ length (now out) ⌝ }
 {
-    let mut run = runner::start(trace, setup, place, frames, store);
+    let mut run = listing::start(trace, setup, place, frames, store);
     while run.place < trace.len() {
-        let filled = runner::fill(run, trace, frames, store, answer, out);
+        let filled = listing::fill(run, trace, frames, store, answer, out);
         let count = filled.count;
         if !io::write_all(STDOUT_FILENO, &out[..count]) {
             return;
@@ -83,10 +83,10 @@ fn list_records(trace: &[u8], setup: Setup, place: usize, out: &mut [u8])
 // The listing of a trace.
 fn list(trace: &[u8]) {
     let mut out = io::large_buffer();
-    match runner::opening(trace) {
+    match listing::opening(trace) {
         Header::Sizes(setup, place) => list_records(trace, setup, place, &mut out),
         Header::Refused(number) => {
-            let count = runner::refusal(number, &mut out);
+            let count = listing::refusal(number, &mut out);
             io::write_all(STDOUT_FILENO, &out[..count]);
         }
     }

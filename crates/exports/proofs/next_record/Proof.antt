@@ -1,7 +1,7 @@
 -- `exports::next_record` meets its contract: what is told, and the place, are those of what `record_at` finds.
 use mathlib.Core.Path.{ap, ap₂, _∙_}
 use borrow.Author.Needs.{needs}
-use Rattle.reading.specs.declared.Found.{Found}
+use Rattle.trace_read.specs.declared.Found.{Found}
 use Rattle.exports.specs.Told.{handed, handedOf}
 use Rattle.exports.proofs.next_record.Statement.{statement}
 use Rattle.exports.proofs.next_record.Tie as tie

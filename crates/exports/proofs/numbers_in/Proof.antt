@@ -3,7 +3,7 @@ use mathlib.Core.Path.{ap, _∙_}
 use Prim.Native.Nat.{ℕ}
 use borrow.Author.Needs.{needs}
 use Rattle.rules.specs.Events.{kindOf}
-use Rattle.form.specs.declared.Fields.{Fields}
+use Rattle.trace_form.specs.declared.Fields.{Fields}
 use Rattle.exports.specs.Told.{row}
 use Rattle.exports.proofs.numbers_in.Statement.{statement}
 use Rattle.exports.proofs.numbers_in.Tie as tie

@@ -1,7 +1,7 @@
 -- `exports::numbers_of` meets its contract: each arm is a case of `told`.
 use mathlib.Core.Path.{sym, ap, _∙_}
 use borrow.Author.Needs.{needs}
-use Rattle.reading.specs.declared.Found.{Found}
+use Rattle.trace_read.specs.declared.Found.{Found}
 use Rattle.exports.specs.Told.{told}
 use Rattle.exports.proofs.numbers_of.Statement.{statement}
 use Rattle.exports.proofs.numbers_of.Tie as tie

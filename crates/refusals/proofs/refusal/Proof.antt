@@ -9,7 +9,7 @@ use Rattle.rules.specs.Sizes.{domainIn, pageIn, frameIn, contextIn}
 use Rattle.rules.specs.Events.{row, onRecords, acting, touching, numbersIn}
 use Rattle.rules.specs.Answers.{firstOf, checks}
 use Rattle.refusals.specs.Stages.{byRow, standing}
-use Rattle.shape.specs.Stages.{byShape}
+use Rattle.core_refuse_event.specs.Stages.{byShape}
 use Rattle.refusals.proofs.Orders.{shape-refused, shape-passed, numbers-told, two-below, first-below}
 use Rattle.refusals.proofs.refusal.Statement.{statement}
 use Rattle.refusals.proofs.refusal.Tie as tie

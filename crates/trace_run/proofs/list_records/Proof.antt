@@ -2,7 +2,7 @@
 use mathlib.Core.Path.{sym}
 use native.Mathlib.Omega.{arith}
 use lib.Seq.{length-take-le}
-use Rattle.runner.proofs.Openings.{pages-counted, taken-in-range, taken-frames, taken-store}
+use Rattle.listing.proofs.Openings.{pages-counted, taken-in-range, taken-frames, taken-store}
 use borrow.Author.Needs.{needs}
 use Rattle.trace_run.proofs.list_records.Statement.{statement}
 use Rattle.trace_run.proofs.list_records.Tie as tie

@@ -6,9 +6,9 @@ use Prim.Native.Nat.{_+_, _-_, _*_, _≤_}
 use native.Mathlib.Omega.{arith}
 use borrow.Author.Needs.{needs}
 use lib.ListN.{length}
-use Rattle.runner.specs.Listing.{point}
-use Rattle.runner.proofs.Openings.{start-counted}
-use Rattle.runner.proofs.Fillings.{left-counted, left-further}
+use Rattle.listing.specs.Listing.{point}
+use Rattle.listing.proofs.Openings.{start-counted}
+use Rattle.listing.proofs.Fillings.{left-counted, left-further}
 use Rattle.trace_run.proofs.write_lines.Statement.{statement}
 use Rattle.trace_run.proofs.write_lines.Tie as tie
 

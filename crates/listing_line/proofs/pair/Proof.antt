@@ -1,0 +1,29 @@
+-- `listing_line::pair` meets its contract.
+use native.Mathlib.Omega.{arith}
+use lib.ListN.{length-set}
+use Rattle.listing_line.proofs.Puts.{put-two}
+use borrow.Author.Needs.{needs}
+use Rattle.listing_line.proofs.pair.Statement.{statement}
+use Rattle.listing_line.proofs.pair.Tie as tie
+
+slice-write-out : tie.Need-slice-write-out
+slice-write-out c = search needs
+
+add-out : tie.Need-add-out
+add-out c = search needs
+
+slice-write-out-2 : tie.Need-slice-write-out-2
+slice-write-out-2 c = simp length-set (omega arith)
+
+add-result : tie.Need-add-result
+add-result c = search needs
+
+same-length : tie.Need-same-length
+same-length c = search needs
+
+returns : tie.Need-returns
+returns c = put-two (c .args .at) (c .args .first) (c .args .second) (c .args .out .now)
+
+pub pair-spec : {M : Type 1} → statement M
+pair-spec =
+    tie.close (tie.spec slice-write-out add-out slice-write-out-2 add-result same-length returns)

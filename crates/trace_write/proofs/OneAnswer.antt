@@ -1,0 +1,15 @@
+-- Each public function's promise leaves one answer: one number, one count and one output. Assumes nothing.
+use mathlib.Core.Path.{sym, _∙_}
+use denote.Ref.{now}
+use Rattle.trace_bits.proofs.Promise.{OneSight}
+use Rattle.trace_write.specs.Writing.{Written, left}
+use Rattle.trace_write.proofs.write_header as write-header
+use Rattle.trace_write.proofs.write_record as write-record
+
+pub write-header-one : OneSight 2 write-header.Kinds.ps write-header.Kinds.r write-header.Reads.Learnt Written
+    (λ κs x e. left x (now (e .1 .1 .0)))
+write-header-one κs a x y e f p q = p ∙ sym q
+
+pub write-record-one : OneSight 2 write-record.Kinds.ps write-record.Kinds.r write-record.Reads.Learnt Written
+    (λ κs x e. left x (now (e .1 .1 .0)))
+write-record-one κs a x y e f p q = p ∙ sym q
