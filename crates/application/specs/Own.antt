@@ -18,7 +18,7 @@ use Rattle.rules.specs.declared.Wear.the-variants.{Dirty}
 use Rattle.rules.specs.declared.Place.{Place}
 use Rattle.rules.specs.declared.Place.the-variants.{Public, Clear, Sealed}
 use Rattle.rules.specs.declared.Named.the-variants.{Nothing, Page}
-use Rattle.core_seal_bytes.specs.Numbers.{Limited}
+use Rattle.moving.specs.Numbers.{Limited}
 use Rattle.application.specs.declared.Own.{Own}
 
 -- context c and its page v are of the setup's

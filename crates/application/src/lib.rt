@@ -51,7 +51,7 @@ fn own_of(setup: Setup, tables: Tables, c: Ctc, v: Gvpn) -> Own
     let running = tables.contexts[context];
     let activity = running.activity;
     let domain = conditions::domain_where(activity);
-    let number = core_seal_bytes::page_number(setup, domain, v);
+    let number = moving::page_number(setup, domain, v);
     let page = tables.pages[number];
     let mapping = page.mapping;
     let frame = conditions::frame_where(mapping);

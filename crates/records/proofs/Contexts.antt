@@ -13,7 +13,8 @@ use Rattle.rules.specs.Records.{given, machine, underway, activityOf, domainOf,
 use Rattle.rules.specs.Sealing.{sealAll, done}
 use Rattle.rules.specs.Events.{numbersIn, row, onRecords, acting, does, turned, resumed, shown}
 use Rattle.rules.specs.Answers.{perform, performed}
-use Rattle.rules.proofs.Facts.{Accepted, accepted, each, Sized}
+use Rattle.rules.specs.Asked.{Limited}
+use Rattle.rules.proofs.Facts.{Accepted, accepted, each}
 use Rattle.rules.proofs.Granting.{Granted, is-acceptable, is-granted}
 use Rattle.rules.specs.declared.Setup.{Setup}
 use Rattle.rules.specs.declared.State.{State}
@@ -28,11 +29,11 @@ use Rattle.rules.specs.declared.Event.the-variants.{Begin, Resume, Spawn, Leave
 use Rattle.stepping.specs.Left.{refuses, stepped, ends}
 use Rattle.stepping.proofs.Laws.{granted-leaves}
 
-domain-below : (s : Setup) (d : Asid) → Sized s → T (domainIn s d) → d .0 < 8
+domain-below : (s : Setup) (d : Asid) → Limited s → T (domainIn s d) → d .0 < 8
 unfolding domainIn
 domain-below s d z t = omega (arith, ltb→lt (d .0) (s .domains) t, z .domains)
 
-context-below : (s : Setup) (c : Ctc) → Sized s → T (contextIn s c) → c .0 < 16
+context-below : (s : Setup) (c : Ctc) → Limited s → T (contextIn s c) → c .0 < 16
 unfolding contextIn
 context-below s c z t = omega (arith, ltb→lt (c .0) (s .contexts) t, z .contexts)
 
@@ -44,7 +45,7 @@ getD-within (x ∷ xs) (suc i) y z h = getD-within xs i y z (le-of-suc-le-suc h)
 
 module _ (setup : Setup) (state : State) (frames store supply : List ℕ) (new buffer : List ℕ) where
   module _ (e : Event) (none : refuses setup state frames store supply e new buffer ≡ 0) where
-    sizes : Sized setup
+    sizes : Limited setup
     sizes = accepted _ _ (is-acceptable _ _ e (length new) (length buffer) none) .looks .sizes
 
     is : Granted setup (state .tables) e (length new) (length buffer)

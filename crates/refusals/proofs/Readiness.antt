@@ -7,7 +7,7 @@ use lib.Dec.{lit<}
 use Rattle.rules.specs.Sizes.{maxDomains}
 use Rattle.rules.specs.Records.{activityOf, domainWhere, isRunning}
 use Rattle.rules.specs.Events.{running}
-use Rattle.rules.proofs.Facts.{Sized, Agreed}
+use Rattle.rules.specs.Asked.{Limited, Agreed}
 use Rattle.refusals.specs.Ready.{Ready}
 use Rattle.rules.specs.declared.Setup.{Setup}
 use Rattle.rules.specs.declared.Tables.{Tables}
@@ -37,7 +37,7 @@ module _ (n : ℕ) (few : n ≤ maxDomains) (a : Activity) (running : (d : Asid)
       at (Running d) r e = r d refl
       at (Kept d i) r e = absurd (let z : _≡_ {A = ℕ} 0 1 = cc in omega arith)
 
-pub ready : (s : Setup) (t : Tables) → Sized s → Agreed s t → Ready s t
+pub ready : (s : Setup) (t : Tables) → Limited s → Agreed s t → Ready s t
 unfolding running
 ready s t sizes agrees =
     record {

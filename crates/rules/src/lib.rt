@@ -1,10 +1,13 @@
 // The types of the monitor core: setup, numbers, records, state, events and answers.
 // What they mean is in specs/, which condenses document 01's core.
 ghost use mathlib.Core.Path.{_≡_};
-ghost use mathlib.Core.Bool.{_&&_};
-ghost use Rattle.rules.specs.Sizes.{between, setupInRange};
-ghost use Rattle.rules.specs.Records.{freshState};
-ghost use Rattle.rules.specs.Events.{kindOf};
+ghost use Prim.Native.Nat.{_≤_};
+ghost use mathlib.Core.Bool.{_&&_, not};
+ghost use Rattle.rules.specs.Sizes.{between, setupInRange, maxPages, pageNumber};
+ghost use Rattle.rules.specs.Records.{freshState, isEmpty, isStopped, isFree, isRunning, isKeptIn, domainWhere};
+ghost use Rattle.rules.specs.Records.{isUnmapped, isPublic, isClearIn, frameWhere};
+ghost use Rattle.rules.specs.Sealing.{takesAt};
+ghost use Rattle.rules.specs.Events.{kindOf, dataLength};
 
 // Numbers, each of its own kind so that none is taken for another, under the sources' names.
 // A domain: address space identifier.
@@ -61,6 +64,14 @@ impl Setup {
         );
         both(size, both(unit, counts))
     }
+
+    // A page's number among all, by which the table has its record and the store its slot.
+    pub fn page_number(self, d: Asid, v: Gvpn) -> usize
+        requires { ⌜ self .pages ≤ maxPages ⌝ }
+        ensures { λ r. ⌜ r ≡ pageNumber self d v ⌝ }
+    {
+        (d.0 as usize) * self.pages + (v.0 as usize)
+    }
 }
 
 fn within(low: usize, high: usize, n: usize) -> bool
@@ -81,6 +92,28 @@ pub enum Life {
     Stopped,
 }
 
+impl Life {
+    pub fn is_empty(self) -> bool
+        ensures { λ r. ⌜ r ≡ isEmpty self ⌝ }
+    {
+        match self {
+            Life::Empty => true,
+            Life::Live => false,
+            Life::Stopped => false,
+        }
+    }
+
+    pub fn is_stopped(self) -> bool
+        ensures { λ r. ⌜ r ≡ isStopped self ⌝ }
+    {
+        match self {
+            Life::Empty => false,
+            Life::Live => false,
+            Life::Stopped => true,
+        }
+    }
+}
+
 // Why a context was stopped; what of its registers the kernel is shown goes by it.
 pub enum TrapKind {
     Interrupt,
@@ -94,9 +127,74 @@ pub enum Activity {
     Kept(Asid, TrapKind),
 }
 
+impl Activity {
+    pub fn is_free(self) -> bool
+        ensures { λ r. ⌜ r ≡ isFree self ⌝ }
+    {
+        match self {
+            Activity::Free => true,
+            Activity::Running(_) => false,
+            Activity::Kept(_, _) => false,
+        }
+    }
+
+    pub fn is_running(self) -> bool
+        ensures { λ r. ⌜ r ≡ isRunning self ⌝ }
+    {
+        match self {
+            Activity::Free => false,
+            Activity::Running(_) => true,
+            Activity::Kept(_, _) => false,
+        }
+    }
+
+    // Kept, and in domain d.
+    pub fn is_kept_in(self, d: Asid) -> bool
+        ensures { λ r. ⌜ r ≡ isKeptIn d self ⌝ }
+    {
+        match self {
+            Activity::Free => false,
+            Activity::Running(_) => false,
+            Activity::Kept(e, _) => e.0 == d.0,
+        }
+    }
+
+    // The domain that the context is in; 0 where it is in none.
+    pub fn domain(self) -> Asid
+        ensures { λ r. ⌜ r ≡ domainWhere self ⌝ }
+    {
+        match self {
+            Activity::Free => Asid(0),
+            Activity::Running(d) => d,
+            Activity::Kept(d, _) => d,
+        }
+    }
+}
+
 pub enum Mapping {
     Unmapped,
     Mapped(Gppn),
+}
+
+impl Mapping {
+    pub fn is_mapped(self) -> bool
+        ensures { λ r. ⌜ r ≡ not (isUnmapped self) ⌝ }
+    {
+        match self {
+            Mapping::Unmapped => false,
+            Mapping::Mapped(_) => true,
+        }
+    }
+
+    // The frame that the page is mapped to; 0 where there is none.
+    pub fn frame(self) -> Gppn
+        ensures { λ r. ⌜ r ≡ frameWhere self ⌝ }
+    {
+        match self {
+            Mapping::Unmapped => Gppn(0),
+            Mapping::Mapped(f) => f,
+        }
+    }
 }
 
 // Of a Clear page: whether it was written since it was last sealed, or else the signature that it was sealed with.
@@ -109,6 +207,43 @@ pub enum Place {
     Public,
     Clear(Gppn, Wear),
     Sealed(u16),
+}
+
+impl Place {
+    pub fn is_public(self) -> bool
+        ensures { λ r. ⌜ r ≡ isPublic self ⌝ }
+    {
+        match self {
+            Place::Public => true,
+            Place::Clear(_, _) => false,
+            Place::Sealed(_) => false,
+        }
+    }
+
+    // Clear, and in frame f.
+    pub fn is_clear_in(self, f: Gppn) -> bool
+        ensures { λ r. ⌜ r ≡ isClearIn f self ⌝ }
+    {
+        match self {
+            Place::Public => false,
+            Place::Clear(g, _) => g.0 == f.0,
+            Place::Sealed(_) => false,
+        }
+    }
+
+    // The signatures that sealing a page here takes: one for a dirty page.
+    pub fn takes(self) -> u8
+        ensures { λ r. ⌜ r ≡ takesAt self ⌝ }
+    {
+        match self {
+            Place::Public => 0,
+            Place::Clear(_, wear) => match wear {
+                Wear::Dirty => 1,
+                Wear::Clean(_) => 0,
+            },
+            Place::Sealed(_) => 0,
+        }
+    }
 }
 
 pub enum Named {
@@ -233,6 +368,28 @@ impl Event {
             Event::Read(_, _, _) => 11,
             Event::Write(_, _, _) => 12,
             Event::Trap(_, _, _) => 13,
+        }
+    }
+
+    // How many bytes of data the event comes with.
+    pub fn data_length(self) -> usize
+        ensures { λ r. ⌜ r ≡ dataLength self ⌝ }
+    {
+        match self {
+            Event::Begin(_, _) => 0,
+            Event::End(_) => 0,
+            Event::Map(_, _, _) => 0,
+            Event::Unmap(_, _) => 0,
+            Event::KernelRead(_, _) => 0,
+            Event::KernelWrite(_, span) => span.len,
+            Event::Resume(_, _) => 8,
+            Event::Spawn(_, _) => 0,
+            Event::Leave(_) => 0,
+            Event::Cloak(_, _) => 0,
+            Event::Uncloak(_, _) => 0,
+            Event::Read(_, _, _) => 0,
+            Event::Write(_, _, span) => span.len,
+            Event::Trap(_, _, _) => 64,
         }
     }
 }

@@ -6,19 +6,21 @@ use Rattle.rules.specs.Records.{Given, Machine, stateOf, placeOf}
 use Rattle.rules.specs.Sealing.{needed, sealedFirst}
 use Rattle.rules.specs.Events.{maxSeals}
 use Rattle.rules.proofs.Rows.{few-first}
-use Rattle.rules.proofs.Facts.{Sized, Shaped, Agreed, Accepted}
+use Rattle.rules.specs.Asked.{Agreed}
+use Rattle.rules.specs.Asked as asked
+use Rattle.rules.proofs.Facts.{Shaped, Accepted}
 use Rattle.rules.specs.declared.Registers.{Registers}
 use Rattle.rules.specs.declared.Asid.{Asid}
 use Rattle.rules.specs.declared.Gvpn.{Gvpn}
 use Rattle.rules.specs.declared.Gppn.{Gppn}
 use Rattle.rules.specs.declared.Setup.{Setup}
 use Rattle.sealing.specs.Under.{during}
-use Rattle.core_seal_bytes.specs.Numbers.{Limited}
+use Rattle.moving.specs.Numbers.{Limited}
 use Rattle.sealing.specs.Asked.{Lent, Matched, Sealable, Reached, Bringable}
 use Rattle.sealing.specs.declared.Work.{Work}
 use Rattle.sealing.proofs.Enough.{ready}
 
-pub limited : (s : Setup) → Sized s → Limited s
+pub limited : (s : Setup) → asked.Limited s → Limited s
 limited s z =
     record { domains = z .domains; pages = z .pages; frames = z .frames; signatures = z .signatures }
 

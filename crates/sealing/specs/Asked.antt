@@ -17,7 +17,7 @@ use Rattle.rules.specs.declared.Wear.{Wear}
 use Rattle.rules.specs.declared.Wear.the-variants.{Clean}
 use Rattle.rules.specs.declared.Place.the-variants.{Clear, Sealed}
 use Rattle.rules.specs.declared.Named.the-variants.{Page}
-use Rattle.core_seal_bytes.specs.Numbers.{Limited}
+use Rattle.moving.specs.Numbers.{Limited}
 use Rattle.sealing.specs.declared.Work.{Work}
 
 -- the lent memory has the lengths that they give

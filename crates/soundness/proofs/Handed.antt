@@ -13,7 +13,7 @@ use Rattle.rules.specs.Sizes.{setupInRange, framesRight, storeRight, supplyRigh
 use Rattle.rules.specs.Records.{Given, Machine, stateOf}
 use Rattle.rules.specs.Sound.{domainSound, contextSound, savedSound, pageSound, frameSound, whole, sound, lookable, acceptable}
 use Rattle.rules.specs.Answers.{startRefusal}
-use Rattle.rules.proofs.Facts.{sized, each, passes, passed}
+use Rattle.rules.proofs.Facts.{limited, each, passes, passed}
 use Rattle.entries.specs.Walk.{Long}
 use Rattle.rules.specs.declared.Setup.{Setup}
 use Rattle.rules.specs.declared.State.{State}
@@ -95,7 +95,7 @@ pub record Products (s : Setup) : Type 0 where
 
 pub products : (s : Setup) → setupInRange s ≡ true → Products s
 products s e =
-    let f = sized s (passed (setupInRange s) e) in
+    let f = limited s (passed (setupInRange s) e) in
     let entries : s .domains * s .pages ≤ maxDomains * maxPages = mul-le-mul (f .domains) (f .pages) in
     record {
       frames = mul-le-mul (f .frames) (f .size);

@@ -26,7 +26,7 @@ use Rattle.rules.specs.declared.Wear.the-variants.{Dirty, Clean}
 use Rattle.rules.specs.declared.Place.{Place}
 use Rattle.rules.specs.declared.Place.the-variants.{Public, Clear, Sealed}
 use Rattle.rules.specs.declared.Event.the-variants.{Write}
-use Rattle.rules.proofs.Facts.{Agreed}
+use Rattle.rules.specs.Asked.{Agreed}
 use Rattle.theorem_reached.proofs.Passing.{Good}
 use Rattle.theorem_reached.proofs.Moves.{Within}
 use Rattle.theorem_reached.proofs.Fates.{Quiet, is-same, is-sealed, is-unveiled, and-then, Act, kept, put, Fate, is-kept, is-zeroed, is-dropped, is-put, sameNumber, quiet-public}

@@ -18,7 +18,8 @@ use Rattle.rules.specs.declared.Activity.the-variants.{Free, Running, Kept}
 use Rattle.rules.specs.declared.Mapping.{Mapping}
 use Rattle.rules.specs.declared.Mapping.the-variants.{Unmapped, Mapped}
 use Rattle.rules.specs.declared.Event.the-variants.{Cloak, Uncloak, Read, Write}
-use Rattle.rules.proofs.Facts.{Agreed, each}
+use Rattle.rules.specs.Asked.{Agreed}
+use Rattle.rules.proofs.Facts.{each}
 use Rattle.theorem_reached.proofs.Passing.{Passed}
 use Rattle.theorem_reached.proofs.Moves.{Within}
 use Rattle.rules.specs.Bytes.{allOf}

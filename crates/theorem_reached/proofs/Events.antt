@@ -29,7 +29,8 @@ use Rattle.rules.specs.declared.Mapping.the-variants.{Unmapped, Mapped}
 use Rattle.rules.specs.declared.Event.{Event}
 use Rattle.rules.specs.declared.Event.the-variants.{Begin, End, Map, Unmap, KernelRead, KernelWrite, Resume, Spawn, Leave, Cloak, Uncloak, Read, Write, Trap}
 use Rattle.rules.proofs.PageNumbers.{same-domain}
-use Rattle.rules.proofs.Facts.{Agreed, each, all, passes}
+use Rattle.rules.specs.Asked.{Agreed}
+use Rattle.rules.proofs.Facts.{each, all, passes}
 use Rattle.theorem_reached.proofs.Passing.{Good, Passed}
 use Rattle.theorem_reached.proofs.Moves.{Within}
 use Rattle.theorem_reached.proofs.Seals.{Fits, seal-good, sealAll-good, seal-apart, seal-names, room-first}

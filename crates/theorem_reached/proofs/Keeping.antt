@@ -30,7 +30,8 @@ use Rattle.rules.specs.declared.Named.{Named}
 use Rattle.rules.specs.declared.Named.the-variants.{Nothing, Page}
 use Rattle.rules.proofs.PageNumbers.{same-domain}
 use Rattle.rules.proofs.Changes.{life-same, life-other, activity-same, activity-other}
-use Rattle.rules.proofs.Facts.{Sized, each, all, names-it}
+use Rattle.rules.specs.Asked.{Limited}
+use Rattle.rules.proofs.Facts.{each, all, names-it}
 use Rattle.theorem_reached.proofs.Soundness.{Sound, or-true}
 
 pub same-context : (c e : Ctc) → c .0 ≡ e .0 → c ≡ e
@@ -91,7 +92,7 @@ module _ (s : Setup) (t u : Tables) where
   names-kept f Nothing places h = tt
   names-kept f (Page d v) places h = let e = each _ h in all _ (e .0, (e .1 .0, (places d v refl (e .1 .1 .0), tt)))
 
-module _ (s : Setup) (x : State) (sizes : Sized s) (h : Sound s x) where
+module _ (s : Setup) (x : State) (sizes : Limited s) (h : Sound s x) where
   -- a domain's life, where it is not Empty afterwards
   pub life-sound : (d : Asid) → d .0 < s .domains → (life : Life) → T (not (isEmpty life))
       → Sound s (record { tables = withLife d life (x .tables); saved = x .saved })

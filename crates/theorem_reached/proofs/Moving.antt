@@ -30,7 +30,8 @@ use Rattle.rules.specs.declared.Named.{Named}
 use Rattle.rules.specs.declared.Named.the-variants.{Page}
 use Rattle.rules.proofs.PageNumbers.{number-in, number-one, number-within}
 use Rattle.rules.proofs.Changes.{page-same, page-other, names-same, names-other}
-use Rattle.rules.proofs.Facts.{Sized, each, all, same-frame}
+use Rattle.rules.specs.Asked.{Limited}
+use Rattle.rules.proofs.Facts.{each, all, same-frame}
 use Rattle.theorem_reached.proofs.Soundness.{Sound}
 use Rattle.theorem_reached.proofs.Keeping.{activity-kept, owned-kept, names-kept}
 
@@ -83,7 +84,7 @@ rewritten s d v r frames used t =
       used = used;
     }
 
-module _ (s : Setup) (x : State) (sizes : Sized s) (h : Sound s x) (d : Asid) (v : Gvpn) (hd : d .0 < s .domains) (hv : v .0 < s .pages) where
+module _ (s : Setup) (x : State) (sizes : Limited s) (h : Sound s x) (d : Asid) (v : Gvpn) (hd : d .0 < s .domains) (hv : v .0 < s .pages) where
   pub number-long : pageNumber s d v < length (x .tables .pages)
   number-long = omega (arith, h .shape .pages, number-within s d v hv maxDomains maxPages (sizes .domains) (sizes .pages) hd)
 
@@ -136,7 +137,7 @@ module _ (s : Setup) (x : State) (sizes : Sized s) (h : Sound s x) (d : Asid) (v
             (owned-kept s t u more e w (pageOf s t e w) (λ l. l) (λ f y c n. others e w f y he hw ne c n) (h .page e w he hw))
 
 -- a page's record alone: its frame, if it is Clear, stays
-module _ (s : Setup) (x : State) (sizes : Sized s) (h : Sound s x) (d : Asid) (v : Gvpn) (hd : d .0 < s .domains) (hv : v .0 < s .pages) where
+module _ (s : Setup) (x : State) (sizes : Limited s) (h : Sound s x) (d : Asid) (v : Gvpn) (hd : d .0 < s .domains) (hv : v .0 < s .pages) where
   pub replaced-sound : (r : PageRecord) → T (ownedSound s (x .tables) d v r)
       → ((f : Gppn) → T (isClearIn f (placeOf s (x .tables) d v)) → T (isClearIn f (r .place)))
       → Sound s (record { tables = rewritten s d v r (x .tables .frames) (x .tables .used) (x .tables); saved = x .saved })

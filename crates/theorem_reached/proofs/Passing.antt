@@ -16,13 +16,14 @@ use Rattle.rules.specs.Events.{row, numbersIn, dataLength, answerLength}
 use Rattle.rules.specs.Answers.{Check, check, checks, firstOf, refusal, outset}
 use Rattle.rules.specs.declared.Gppn.{Gppn}
 use Rattle.rules.specs.declared.Event.{Event}
-use Rattle.rules.proofs.Facts.{Sized, Agreed, each, all, passed, accepted}
+use Rattle.rules.specs.Asked.{Limited, Agreed}
+use Rattle.rules.proofs.Facts.{each, all, passed, accepted}
 use Rattle.theorem_reached.proofs.Soundness.{Sound, sound-facts, sound-of}
 
 -- an acceptable machine
 pub record Good (g : Given) (m : Machine) : Type 0 where
   pub ok : T (acceptable g m)
-  pub sizes : Sized (g .setup)
+  pub sizes : Limited (g .setup)
   pub frames : length (m .frames) ≡ g .setup .frames * g .setup .size
   pub store : length (m .store) ≡ g .setup .domains * g .setup .pages * g .setup .size
   pub supply : length (g .supply) ≡ g .setup .signatures * g .setup .size

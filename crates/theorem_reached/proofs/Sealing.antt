@@ -23,7 +23,8 @@ use Rattle.rules.specs.declared.Named.the-variants.{Nothing, Page}
 use Rattle.rules.proofs.Parts.{length-withPart, part-fits, part-other}
 use Rattle.rules.proofs.PageNumbers.{number-one}
 use Rattle.rules.proofs.Changes.{place-same, names-same, names-other}
-use Rattle.rules.proofs.Facts.{Agreed, same-frame}
+use Rattle.rules.specs.Asked.{Agreed}
+use Rattle.rules.proofs.Facts.{same-frame}
 use Rattle.theorem_reached.proofs.Moves.{Within, frame-whole, slot-fits, signature-whole, seal-keeps-bytes, seal-shows-signature}
 use Rattle.theorem_reached.proofs.Moving.{number-long, moved-sound, place-other, owned-lives}
 use Rattle.theorem_reached.proofs.Passing.{Good, good-kept}

@@ -25,7 +25,8 @@ use Rattle.rules.specs.declared.Named.{Named}
 use Rattle.rules.specs.declared.Named.the-variants.{Nothing, Page}
 use Rattle.rules.proofs.Parts.{length-withPart, part-fits, part-same, part-other}
 use Rattle.rules.proofs.Changes.{place-same, names-same, names-other}
-use Rattle.rules.proofs.Facts.{Sized, Agreed, all, same-frame}
+use Rattle.rules.specs.Asked.{Limited, Agreed}
+use Rattle.rules.proofs.Facts.{all, same-frame}
 use Rattle.theorem_reached.proofs.Soundness.{Sound}
 use Rattle.theorem_reached.proofs.Keeping.{names-self}
 use Rattle.theorem_reached.proofs.Moving.{number-long, moved-sound, place-other}
@@ -43,7 +44,7 @@ none-clear s t agrees f none d v hd h w c q =
     nothing-page none (rw (same-frame h f q) at ((agrees .named d v h w (hd .domain) (hd .page) c) .1))
 
 -- a page Clear in a frame that named none
-module _ (s : Setup) (x : State) (sizes : Sized s) (h : Sound s x) (f : Gppn) (hf : f .0 < s .frames) (d : Asid) (v : Gvpn) (hd : Within s d v)
+module _ (s : Setup) (x : State) (sizes : Limited s) (h : Sound s x) (f : Gppn) (hf : f .0 < s .frames) (d : Asid) (v : Gvpn) (hd : Within s d v)
     (w : Wear) (lives : T (not (isEmpty (lifeOf (x .tables) d)))) (none : namesOf (x .tables) f ≡ Nothing)
     (away : (k : Gppn) → T (isClearIn k (placeOf s (x .tables) d v)) → ⊥) (worn : T (wearSound (x .tables) w)) where
   abbrev pub enteredTables : Tables

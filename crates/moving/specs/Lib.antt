@@ -1,0 +1,2 @@
+-- What the contracts of moving cite beside the rules.
+pub mod Numbers

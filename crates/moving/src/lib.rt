@@ -1,0 +1,90 @@
+// What sealing and unveiling are made of: a page's number, the number of the signature, a record's new place, and the bytes that
+// move between frames and store.
+ghost use mathlib.Core.Path.{_≡_};
+ghost use Prim.Native.Nat.{_+_, _*_, _<_, _≤_};
+ghost use lib.ListN.{length};
+ghost use Rattle.rules.specs.Sealing.{sealedWith, takes};
+ghost use Rattle.moving.specs.Numbers.{Limited, Numbered, SealedBytes, UnveiledBytes};
+use rules::Asid;
+use rules::Gvpn;
+use rules::PageRecord;
+use rules::Place;
+use rules::Setup;
+use rules::Wear;
+
+// A page's number among all, by which the table has its record and the store its slot.
+pub fn page_number(setup: Setup, d: Asid, v: Gvpn) -> usize
+    requires { ⌜ (Limited setup) × (d .0 < setup .domains) × (v .0 < setup .pages) ⌝ }
+    ensures { λ r. ⌜ Numbered setup d v r ⌝ }
+{
+    (d.0 as usize) * setup.pages + (v.0 as usize)
+}
+
+// The number of the signature that a page is sealed with.
+pub fn sealed_with(used: u16, wear: Wear) -> u16
+    ensures { λ r. ⌜ r ≡ sealedWith used wear ⌝ }
+{
+    match wear {
+        Wear::Dirty => used,
+        Wear::Clean(k) => k,
+    }
+}
+
+// The count of used signatures after it.
+pub fn used_after(used: u16, wear: Wear) -> u16
+    requires { ⌜ sealedWith used wear < 65535 ⌝ }
+    ensures { λ r. ⌜ r ≡ used + takes wear ⌝ }
+{
+    match wear {
+        Wear::Dirty => used + 1,
+        Wear::Clean(_) => used,
+    }
+}
+
+// A page's record with another place: its mapping stays.
+pub fn placed(page: PageRecord, place: Place) -> PageRecord
+    ensures { λ r. ⌜ r ≡ record { mapping = page .mapping; place = place } ⌝ }
+{
+    let mapping = page.mapping;
+    PageRecord { mapping, place }
+}
+
+// Frame f is copied to its page's slot, and filled with signature k.
+pub fn seal_bytes(
+    size: usize,
+    frames: &mut [u8],
+    store: &mut [u8],
+    supply: &[u8],
+    f: usize,
+    slot: usize,
+    k: usize,
+)
+    requires { ⌜ (f * size + size ≤ length (now frames)) × (slot * size + size ≤ length (now store)) × (k * size + size ≤ length (now supply)) ⌝ }
+    ensures { λ _. ⌜ SealedBytes size f slot k (now (supply .entry)) (now (frames .entry)) (now (store .entry)) (now (frames .exit)) (now (store .exit)) ⌝ }
+{
+    core_bytes::copy_page(store, size, slot, core_bytes::page(frames, size, f));
+    core_bytes::copy_page(frames, size, f, core_bytes::page(supply, size, k));
+}
+
+// Where frame f holds signature k, the slot is copied over it: whether it did.
+pub fn unveil_bytes(
+    size: usize,
+    frames: &mut [u8],
+    store: &[u8],
+    supply: &[u8],
+    f: usize,
+    slot: usize,
+    k: usize,
+) -> bool
+    requires { ⌜ (f * size + size ≤ length (now frames)) × (slot * size + size ≤ length (now store)) × (k * size + size ≤ length (now supply)) ⌝ }
+    ensures { λ r. ⌜ UnveiledBytes size f slot k (now (supply .entry)) (now (store .entry)) (now (frames .entry)) r (now (frames .exit)) ⌝ }
+{
+    let start = k * size;
+    let end = start + size;
+    if core_bytes::same_page(frames, size, f, &supply[start..end]) {
+        core_bytes::copy_page(frames, size, f, core_bytes::page(store, size, slot));
+        true
+    } else {
+        false
+    }
+}
