@@ -2,6 +2,7 @@
 ghost use mathlib.Core.Path.{_≡_};
 ghost use Prim.Native.Nat.{_*_, _<_, _≤_};
 ghost use lib.ListN.{length, getD, set};
+ghost use Rattle.rules.specs.Bytes.{zeros};
 ghost use Rattle.rules.specs.Sizes.{maxContexts};
 ghost use Rattle.rules.specs.Records.{zeroRegisters};
 ghost use Rattle.core_tables.specs.Image.{savedIn};
@@ -14,6 +15,15 @@ pub fn saved_at(saved: &[u64], n: usize, i: usize) -> &[u64]
     let at = 8 * i;
     let end = at + 8;
     &saved[at..end]
+}
+
+// Every word 0: as freshly started.
+pub fn zero(saved: &mut [u64])
+    ensures { λ _. ⌜ now (saved .exit) ≡ zeros (length (now (saved .entry))) ⌝ }
+{
+    for i in 0..saved.len() {
+        saved[i] = 0;
+    }
 }
 
 // Every word of dst from src, which is as long.
