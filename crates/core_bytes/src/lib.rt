@@ -1,12 +1,50 @@
 // Bytes: copied, made zero and compared, whole or on one page of a buffer; and a span of bytes within a page.
 // The inner layer under sealing and events: each function asks that what it is handed fits, and its callers show it.
 ghost use mathlib.Core.Path.{_≡_};
-ghost use Prim.Native.Nat.{_+_, _*_, _≤_};
+ghost use Prim.Native.Nat.{_+_, _*_, _≤_, _<_};
 ghost use lib.ListN.{length, take, drop};
+ghost use lib.Dec.{eqb};
 ghost use Rattle.rules.specs.Bytes.{part, withPart, overlay, zeros, sameBytes};
+
+// The most bytes that are copied at once.
+const PIECE: usize = 4096;
+
+// Pages are compared in blocks of 16, 64 or 256 bytes, by how many there are.
+const SMALL: usize = 16;
+
+const MIDDLE: usize = 64;
+
+const LARGE: usize = 256;
 
 // Every byte of dst from src, which is as long.
 pub fn copy(dst: &mut [u8], src: &[u8])
+    requires { ⌜ length (now src) ≡ length (now dst) ⌝ }
+    ensures { λ _. ⌜ now (dst .exit) ≡ now (src .entry) ⌝ }
+{
+    let count = src.len();
+    let mut at = 0;
+    while PIECE < count - at {
+        let end = at + PIECE;
+        copy_piece(&mut dst[at..end], &src[at..end]);
+        at = end;
+    }
+    copy_piece(&mut dst[at..count], &src[at..count]);
+}
+
+// The same, of at most 4,096 bytes. They go by way of an array of its own, which neither dst nor src can overlap:
+// the two loops then become one memmove, where dst from src alone is a loop of 16-byte moves.
+fn copy_piece(dst: &mut [u8], src: &[u8])
+    requires { ⌜ (length (now src) ≡ length (now dst)) × (length (now src) ≤ 4096) ⌝ }
+    ensures { λ _. ⌜ now (dst .exit) ≡ now (src .entry) ⌝ }
+{
+    let mut held = [0u8; PIECE];
+    let count = src.len();
+    copy_each(&mut held[0..count], src);
+    copy_each(dst, &held[0..count]);
+}
+
+// The same, byte by byte.
+fn copy_each(dst: &mut [u8], src: &[u8])
     requires { ⌜ length (now src) ≡ length (now dst) ⌝ }
     ensures { λ _. ⌜ now (dst .exit) ≡ now (src .entry) ⌝ }
 {
@@ -24,24 +62,52 @@ pub fn zero(dst: &mut [u8])
     }
 }
 
-// Whether a and b hold the same bytes. Differences are gathered to the end, from both halves at once and with no way out
-// at the first: a loop that tests each byte is not vectorised. The place of a difference is looked for once one is known.
+// Whether a and b hold the same bytes: in blocks that are the longer the more bytes there are, so that a short page
+// is one block or a few.
 pub fn same(a: &[u8], b: &[u8]) -> bool
     ensures { λ r. ⌜ r ≡ sameBytes (now (a .entry)) (now (b .entry)) ⌝ }
 {
-    if a.len() != b.len() {
+    let count = a.len();
+    if count != b.len() {
         return false;
     }
-    // of an odd count the byte in the middle is in both halves
-    let middle = a.len() / 2;
-    let half = a.len() - middle;
-    let mut differing: u8 = 0;
-    for i in 0..half {
-        let first = a[i] ^ b[i];
-        let second = a[middle + i] ^ b[middle + i];
-        differing = differing | first | second;
+    if count < MIDDLE {
+        return same_blocks(a, b, SMALL);
     }
-    differing == 0
+    if count < LARGE {
+        return same_blocks(a, b, MIDDLE);
+    }
+    same_blocks(a, b, LARGE)
+}
+
+// The same of two that are as long, block by block: it ends at the first block that differs.
+fn same_blocks(a: &[u8], b: &[u8], block: usize) -> bool
+    requires { ⌜ (length (now a) ≡ length (now b)) × (0 < block) ⌝ }
+    ensures { λ r. ⌜ r ≡ sameBytes (now (a .entry)) (now (b .entry)) ⌝ }
+{
+    let count = a.len();
+    let mut at = 0;
+    while block <= count - at {
+        let end = at + block;
+        if differing(&a[at..end], &b[at..end]) != 0 {
+            return false;
+        }
+        at = end;
+    }
+    differing(&a[at..count], &b[at..count]) == 0
+}
+
+// The bits in which bytes of a and of b differ, of all of them in one byte. It goes to the end whatever it meets: a loop
+// that tests each byte is not vectorised.
+fn differing(a: &[u8], b: &[u8]) -> u8
+    requires { ⌜ length (now a) ≡ length (now b) ⌝ }
+    ensures { λ r. ⌜ eqb r 0 ≡ sameBytes (now (a .entry)) (now (b .entry)) ⌝ }
+{
+    let mut bits: u8 = 0;
+    for i in 0..a.len() {
+        bits = bits | (a[i] ^ b[i]);
+    }
+    bits
 }
 
 // The bytes of dst from at on become src.
