@@ -5,39 +5,38 @@ ghost use Prim.Native.Nat.{_+_, _*_, _≤_, _<_};
 ghost use lib.ListN.{length, take, drop};
 ghost use lib.Dec.{eqb};
 ghost use Rattle.rules.specs.Bytes.{part, withPart, overlay, zeros, sameBytes};
+ghost use Rattle.rules.specs.Sizes.{maxSize};
+use rules::Setup;
 
-// The most bytes that are copied at once.
-const PIECE: usize = 4096;
-
-// Pages are compared in blocks of 16, 64 or 256 bytes, by how many there are.
+// The lengths of the blocks in which bytes are compared.
 const SMALL: usize = 16;
 
 const MIDDLE: usize = 64;
 
 const LARGE: usize = 256;
 
-// Every byte of dst from src, which is as long.
+// Every byte of dst from src, which is as long: in pieces of the largest page's length, so that a page is one piece.
 pub fn copy(dst: &mut [u8], src: &[u8])
     requires { ⌜ length (now src) ≡ length (now dst) ⌝ }
     ensures { λ _. ⌜ now (dst .exit) ≡ now (src .entry) ⌝ }
 {
     let count = src.len();
     let mut at = 0;
-    while PIECE < count - at {
-        let end = at + PIECE;
+    while Setup::MAX_SIZE < count - at {
+        let end = at + Setup::MAX_SIZE;
         copy_piece(&mut dst[at..end], &src[at..end]);
         at = end;
     }
     copy_piece(&mut dst[at..count], &src[at..count]);
 }
 
-// The same, of at most 4,096 bytes. They go by way of an array of its own, which neither dst nor src can overlap:
-// the two loops then become one memmove, where dst from src alone is a loop of 16-byte moves.
+// The same of one piece. The bytes go through an array: the compiler sees that it overlaps neither slice, and makes one
+// call of memmove of the two loops. It does not see that of dst and src, and would move 16 bytes at a time.
 fn copy_piece(dst: &mut [u8], src: &[u8])
-    requires { ⌜ (length (now src) ≡ length (now dst)) × (length (now src) ≤ 4096) ⌝ }
+    requires { ⌜ (length (now src) ≡ length (now dst)) × (length (now src) ≤ maxSize) ⌝ }
     ensures { λ _. ⌜ now (dst .exit) ≡ now (src .entry) ⌝ }
 {
-    let mut held = [0u8; PIECE];
+    let mut held = [0u8; Setup::MAX_SIZE];
     let count = src.len();
     copy_each(&mut held[0..count], src);
     copy_each(dst, &held[0..count]);
@@ -62,8 +61,8 @@ pub fn zero(dst: &mut [u8])
     }
 }
 
-// Whether a and b hold the same bytes: in blocks that are the longer the more bytes there are, so that a short page
-// is one block or a few.
+// Whether a and b hold the same bytes. Few bytes are compared in small blocks, so that none are left over: a page's length
+// is a multiple of 16.
 pub fn same(a: &[u8], b: &[u8]) -> bool
     ensures { λ r. ⌜ r ≡ sameBytes (now (a .entry)) (now (b .entry)) ⌝ }
 {
@@ -80,7 +79,7 @@ pub fn same(a: &[u8], b: &[u8]) -> bool
     same_blocks(a, b, LARGE)
 }
 
-// The same of two that are as long, block by block: it ends at the first block that differs.
+// The same of a and b of one length: block by block, up to the first that differs, and then what is left over.
 fn same_blocks(a: &[u8], b: &[u8], block: usize) -> bool
     requires { ⌜ (length (now a) ≡ length (now b)) × (0 < block) ⌝ }
     ensures { λ r. ⌜ r ≡ sameBytes (now (a .entry)) (now (b .entry)) ⌝ }
@@ -97,8 +96,8 @@ fn same_blocks(a: &[u8], b: &[u8], block: usize) -> bool
     differing(&a[at..count], &b[at..count]) == 0
 }
 
-// The bits in which bytes of a and of b differ, of all of them in one byte. It goes to the end whatever it meets: a loop
-// that tests each byte is not vectorised.
+// The bits in which a byte of a differs from that of b, of all bytes in one. It goes to the end whatever it meets, since
+// the compiler vectorises no loop that tests each byte.
 fn differing(a: &[u8], b: &[u8]) -> u8
     requires { ⌜ length (now a) ≡ length (now b) ⌝ }
     ensures { λ r. ⌜ eqb r 0 ≡ sameBytes (now (a .entry)) (now (b .entry)) ⌝ }
@@ -160,7 +159,8 @@ pub fn same_page(bytes: &[u8], size: usize, k: usize, with: &[u8]) -> bool
 // The bytes of page k from off on become new.
 pub fn put_span(bytes: &mut [u8], size: usize, k: usize, off: usize, new: &[u8])
     requires { ⌜ (off + length (now new) ≤ size) × (k * size + size ≤ length (now bytes)) ⌝ }
-    ensures { λ _. ⌜ now (bytes .exit) ≡ withPart size k (overlay off (now (new .entry)) (part size k (now (bytes .entry)))) (now (bytes .entry)) ⌝ }
+    ensures { λ _. ⌜ now (bytes .exit)
+        ≡ withPart size k (overlay off (now (new .entry)) (part size k (now (bytes .entry)))) (now (bytes .entry)) ⌝ }
 {
     let start = k * size;
     let end = start + size;

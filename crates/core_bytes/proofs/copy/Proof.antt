@@ -3,6 +3,7 @@ use mathlib.Core.Path.{_≡_, refl, ap, _∙_}
 use Prim.Native.Nat.{_+_, _≤_, _-_}
 use native.Mathlib.Omega.{arith}
 use lib.ListN.{length}
+use Rattle.rules.specs.Sizes.{maxSize}
 use Rattle.core_bytes.proofs.Copied.{copied, copied-none, length-copied, copied-piece, copied-all}
 use Rattle.core_bytes.proofs.Lent.{length-mid, length-mids}
 use borrow.Author.Needs.{needs}
@@ -55,7 +56,7 @@ loop-again c =
     let piece = c .before .before .copy-piece in
     let a = c .before .before .before .before .before .before .before .before .before .args in
     let l = c .before .before .before .before .before .before .loop in
-    let more = copied-piece (a .src .now) (a .dst .now) (l .at) (l .at + 4096) (omega arith) (omega arith) (l .inv .2) (piece .ensures) in
+    let more = copied-piece (a .src .now) (a .dst .now) (l .at) (l .at + maxSize) (omega arith) (omega arith) (l .inv .2) (piece .ensures) in
     (omega arith, ap length more ∙ length-copied _ _ _ (omega arith) (omega arith), more)
 
 sub-copy-piece-3 : tie.Need-sub-copy-piece-3 Inv-loop μ-loop
