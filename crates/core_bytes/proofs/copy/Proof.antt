@@ -56,7 +56,8 @@ loop-again c =
     let piece = c .before .before .copy-piece in
     let a = c .before .before .before .before .before .before .before .before .before .args in
     let l = c .before .before .before .before .before .before .loop in
-    let more = copied-piece (a .src .now) (a .dst .now) (l .at) (l .at + maxSize) (omega arith) (omega arith) (l .inv .2) (piece .ensures) in
+    let end = l .at + maxSize in
+    let more = copied-piece (a .src .now) (a .dst .now) (l .at) end (omega arith) (omega arith) (l .inv .2) (piece .ensures) in
     (omega arith, ap length more ∙ length-copied _ _ _ (omega arith) (omega arith), more)
 
 sub-copy-piece-3 : tie.Need-sub-copy-piece-3 Inv-loop μ-loop
