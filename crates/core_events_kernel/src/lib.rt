@@ -2,12 +2,38 @@
 // Each asks that the rules do not refuse the event, and leaves what the rules leave.
 ghost use Rattle.core_answer.specs.Contracts.{Granted, Steps};
 use core_seal::Work;
+use rules::Activity;
 use rules::Answer;
 use rules::Asid;
+use rules::Ctc;
 use rules::Event;
 use rules::Gppn;
+use rules::Gvpn;
+use rules::Life;
+use rules::Mapping;
 use rules::Setup;
 use rules::Span;
+
+// Kind 0: domain d begins, with context c Running in it.
+pub fn begin(
+    setup: Setup,
+    tables: &mut [u16],
+    saved: &[u64],
+    frames: &[u8],
+    store: &[u8],
+    supply: &[u8],
+    d: Asid,
+    c: Ctc,
+    data: &[u8],
+    answer: &[u8],
+) -> Answer
+    requires { ⌜ Granted setup tables saved frames store supply (Event.Begin d c) «data» answer ⌝ }
+    ensures { λ r. ⌜ Steps setup tables saved frames store supply (Event.Begin d c) «data» answer r ⌝ }
+{
+    core_tables::put_life(tables, d.0 as usize, Life::Live);
+    core_tables::put_activity(tables, c.0 as usize, Activity::Running(d));
+    core_answer::told(tables, Answer::DONE, 0, 0)
+}
 
 // Kind 1: domain d ends.
 pub fn end(
@@ -25,6 +51,49 @@ pub fn end(
     ensures { λ r. ⌜ Steps setup tables saved frames store supply (Event.End d) «data» answer r ⌝ }
 {
     core_end::end(setup, tables, saved, frames, store, d);
+    core_answer::told(tables, Answer::DONE, 0, 0)
+}
+
+// Kind 2: page v of domain d is mapped to frame f, whatever it was mapped to.
+pub fn map(
+    setup: Setup,
+    tables: &mut [u16],
+    saved: &[u64],
+    frames: &[u8],
+    store: &[u8],
+    supply: &[u8],
+    d: Asid,
+    v: Gvpn,
+    f: Gppn,
+    data: &[u8],
+    answer: &[u8],
+) -> Answer
+    requires { ⌜ Granted setup tables saved frames store supply (Event.Map d v f) «data» answer ⌝ }
+    ensures { λ r. ⌜ Steps setup tables saved frames store supply (Event.Map d v f) «data» answer r ⌝ }
+{
+    let number = setup.page_number(d, v);
+    core_tables::put_mapping(tables, number, Mapping::Mapped(f));
+    core_answer::told(tables, Answer::DONE, 0, 0)
+}
+
+// Kind 3: page v of domain d is mapped to no frame any more.
+pub fn unmap(
+    setup: Setup,
+    tables: &mut [u16],
+    saved: &[u64],
+    frames: &[u8],
+    store: &[u8],
+    supply: &[u8],
+    d: Asid,
+    v: Gvpn,
+    data: &[u8],
+    answer: &[u8],
+) -> Answer
+    requires { ⌜ Granted setup tables saved frames store supply (Event.Unmap d v) «data» answer ⌝ }
+    ensures { λ r. ⌜ Steps setup tables saved frames store supply (Event.Unmap d v) «data» answer r ⌝ }
+{
+    let number = setup.page_number(d, v);
+    core_tables::put_mapping(tables, number, Mapping::Unmapped);
     core_answer::told(tables, Answer::DONE, 0, 0)
 }
 
