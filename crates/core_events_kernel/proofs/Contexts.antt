@@ -1,14 +1,15 @@
--- Kind 0, begin, where it is granted: what the code asks is given, and what the rules leave.
+-- Kinds 0 and 6, begin and resume, where they are granted: what the code asks is given, and what the rules leave.
 use mathlib.Core.Path.{_≡_, sym, _∙_}
 use mathlib.Core.List.{List}
-use Prim.Native.Nat.{ℕ, _<_}
+use Prim.Native.Nat.{ℕ, _*_, _≤_, _<_}
 use native.Mathlib.Omega.{arith}
-use lib.ListN.{length}
+use lib.ListN.{length, getD, set}
 use lib.Dec.{T, ltb→lt}
-use Rattle.rules.specs.Bytes.{overlay}
+use Rattle.rules.specs.Bytes.{overlay, zeros, number, bytesOf}
 use Rattle.rules.specs.Sizes.{maxDomains, maxContexts, domainIn, contextIn}
+use Rattle.rules.specs.Records.{activityOf, zeroRegisters}
 use Rattle.rules.specs.Sealing.{sealAll, done}
-use Rattle.rules.specs.Events.{numbersIn, row, onRecords, does}
+use Rattle.rules.specs.Events.{numbersIn, row, onRecords, does, turned, resumed}
 use Rattle.rules.specs.Answers.{perform, performed}
 use Rattle.rules.specs.Asked.{Limited}
 use Rattle.rules.proofs.Facts.{each}
@@ -16,11 +17,12 @@ use Rattle.rules.specs.declared.Setup.{Setup}
 use Rattle.rules.specs.declared.Asid.{Asid}
 use Rattle.rules.specs.declared.Ctc.{Ctc}
 use Rattle.rules.specs.declared.Life.the-variants.{Live}
+use Rattle.rules.specs.declared.Activity.{Activity}
 use Rattle.rules.specs.declared.Activity.the-variants.{Running}
 use Rattle.rules.specs.declared.Event.{Event}
-use Rattle.rules.specs.declared.Event.the-variants.{Begin}
+use Rattle.rules.specs.declared.Event.the-variants.{Begin, Resume}
 use Rattle.rules.specs.declared.Answer.{Answer}
-use Rattle.core_tables.specs.Image.{imageWords, tablesIn}
+use Rattle.core_tables.specs.Image.{imageWords, tablesIn, savedIn}
 use Rattle.core_tables.specs.Put.{Put, setLife, setActivity}
 use Rattle.core_answer.specs.Handed.{Handed, handed, left, refuses, stepped}
 use Rattle.core_answer.specs.Contracts.{Tells}
@@ -63,3 +65,39 @@ module _ (setup : Setup) (words saved frames store supply : List ℕ) (d : Asid)
         let q = runs (setup .pages) in
         tells setup saved frames store buffer (q .canonical (p .canonical (was .canonical))) (was .saved-long)
         ∙ rw (q .tables, p .tables) (sym (granted-leaves (with-event (Begin d c)) none))
+
+  -- 6, resume
+  module _ (none : refuses (with-event (Resume d c)) ≡ 0) where
+    -- the context's saved registers are among those lent
+    pub resume-kept : (length saved ≡ 8 * setup .contexts) × (setup .contexts ≤ maxContexts) × (c .0 < setup .contexts)
+    unfolding numbersIn contextIn
+    resume-kept = (
+      found _ none .saved-long,
+      was-accepted _ none .looks .sizes .contexts,
+      ltb→lt (c .0) (setup .contexts) (each _ (was-granted _ none .numbers) .1 .0),
+    )
+
+    pub resume-runs : (length words ≡ imageWords) × (c .0 < maxContexts)
+    resume-runs = (found _ none .tables-long, omega (arith, resume-kept .1, resume-kept .2))
+
+    pub resume-brings : length new ≡ 8
+    resume-brings = was-granted _ none .brings
+
+    pub resume-room : 64 ≤ length buffer
+    resume-room = was-granted _ none .gives
+
+    pub resume-steps : {r : Answer} {activity : Activity} {x : ℕ} {kept given answer : List ℕ} (ran cleared : List ℕ)
+        → ((v : ℕ) → activity ≡ activityOf (tablesIn v words) c)
+        → kept ≡ (getD (savedIn (setup .contexts) saved) (c .0) zeroRegisters) .words → x ≡ number new
+        → given ≡ resumed activity x kept → answer ≡ overlay 0 (bytesOf given) buffer
+        → ((v : ℕ) → Put v words ran (setActivity (c .0) (Running d) (tablesIn v words)))
+        → savedIn (setup .contexts) cleared ≡ set (savedIn (setup .contexts) saved) (c .0) zeroRegisters
+        → length cleared ≡ length saved → Tells ran 0 0 0 r
+        → left r ran cleared frames store answer ≡ stepped (with-event (Resume d c))
+    unfolding perform performed row onRecords sealAll does done turned zeros
+    resume-steps ran cleared activity kept x given answer runs clears long tells =
+        let was = found _ none in
+        let q = runs (setup .pages) in
+        tells setup cleared frames store _ (q .canonical (was .canonical)) (long ∙ was .saved-long)
+        ∙ rw (q .tables, clears, answer, given, x, kept, activity (setup .pages))
+        (sym (granted-leaves (with-event (Resume d c)) none))

@@ -146,3 +146,30 @@ pub fn kernel_write(
     core_bytes::put_span(frames, setup.size, f.0 as usize, span.off, data);
     core_answer::told(tables, Answer::DONE, sealed.seals, sealed.unveils)
 }
+
+// Kind 6: context c runs again in domain d, and is given its registers; they are kept no longer.
+pub fn resume(
+    setup: Setup,
+    tables: &mut [u16],
+    saved: &mut [u64],
+    frames: &[u8],
+    store: &[u8],
+    supply: &[u8],
+    d: Asid,
+    c: Ctc,
+    data: &[u8],
+    answer: &mut [u8],
+) -> Answer
+    requires { ⌜ Granted setup tables saved frames store supply (Event.Resume d c) «data» answer ⌝ }
+    ensures { λ r. ⌜ Steps setup tables saved frames store supply (Event.Resume d c) «data» answer r ⌝ }
+{
+    let context = c.0 as usize;
+    let activity = core_tables::activity_at(tables, context);
+    let registers = core_tables::saved::registers_at(saved, setup.contexts, context);
+    let x = core_registers::word(data);
+    let given = core_registers::resumed(activity, x, registers);
+    core_registers::give(given, answer);
+    core_tables::put_activity(tables, context, Activity::Running(d));
+    core_tables::saved::clear_saved(saved, setup.contexts, context);
+    core_answer::told(tables, Answer::DONE, 0, 0)
+}
