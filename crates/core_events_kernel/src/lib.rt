@@ -51,7 +51,7 @@ pub fn end(
     ensures { λ r. ⌜ Steps setup tables saved frames store supply (Event.End d) «data» answer r ⌝ }
 {
     core_end::end(setup, tables, saved, frames, store, d);
-    core_answer::told(tables, Answer::DONE, 0, 0)
+    core_answer::told(tables, Answer::DONE, 0, 0) // what was private is zeroed and not sealed
 }
 
 // Kind 2: page v of domain d is mapped to frame f, whatever it was mapped to.
