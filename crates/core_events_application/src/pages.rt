@@ -57,7 +57,8 @@ fn open_home(setup: Setup, tables: &mut [u16], frames: &mut [u8], place: Place)
 // The page of this number was written: a private one is dirty, even where the bytes are those that stood there.
 fn mark_dirty(tables: &mut [u16], number: usize)
     requires { ⌜ (length (now tables) ≡ imageWords) × (number < maxEntries) ⌝ }
-    ensures { λ _. ⌜ ((v : ℕ) → Put v (now (tables .entry)) (now (tables .exit)) (writtenTables number (tablesIn v (now (tables .entry))))) ⌝ }
+    ensures { λ _. ⌜ ((v : ℕ) → Put v (now (tables .entry)) (now (tables .exit))
+        (writtenTables number (tablesIn v (now (tables .entry))))) ⌝ }
 {
     let place = core_tables::place_at(tables, number);
     let Place::Clear(f, _) = place else {

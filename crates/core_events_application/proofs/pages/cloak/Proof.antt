@@ -22,22 +22,27 @@ cast-frame c = search needs
 
 zero-page-requires : tie.Need-zero-page-requires
 zero-page-requires c κs =
-    let own = c .before .before .before .before .before .before .before .before .before .before .before .before .before .before in
+    let sealed = c .before .before .before .before .before in
+    let own = sealed .before .before .before .before .before .before .before .before .before in
     let a = own .before .before .before .before .before .before .before .before .before in
-    cloak-fits _ _ _ _ _ _ _ _ (a .args .«data» .now) (a .args .answer .now) (a .pre) _ (own .own-page .ensures) (c .before .before .before .before .before .frames .given)
+    cloak-fits _ _ _ _ _ _ _ _ (a .args .«data» .now) (a .args .answer .now) (a .pre) _ (own .own-page .ensures)
+    (sealed .frames .given)
 
 put-move-requires : tie.Need-put-move-requires
 put-move-requires c κs =
-    let sealed = c .before .before .before .before .before .before .before .before .before .before .before .before in
-    let own = sealed .before .before .before .before .before .before in
+    let sealed = c .before .before .before .before .before .before .before .before .before .before .before in
+    let own = sealed .before .before .before .before .before .before .before in
     let a = own .before .before .before .before .before .before .before .before .before in
-    cloak-moves _ _ _ _ _ _ _ _ (a .args .«data» .now) (a .args .answer .now) (a .pre) _ (own .own-page .ensures) (c .before .before .before .before .before .before .before .before .before .before .before .tables .given)
+    cloak-moves _ _ _ _ _ _ _ _ (a .args .«data» .now) (a .args .answer .now) (a .pre) _ (own .own-page .ensures)
+    (sealed .tables .given)
 
 told-requires : tie.Need-told-requires
 told-requires c κs =
-    let sealed = c .before .before .before .before .before .before .before .before .before .before .before .before .before .before .before in
-    let a = sealed .before .before .before .before .before .before .before .before .before .before .before .before .before .before .before .before in
-    c .before .before .tables2 .given ∙ sealed .tables .given ∙ found _ (a .pre) .tables-long
+    let moved = c .before .before in
+    let sealed = moved .before .before .before .before .before .before .before .before .before .before .before .before .before in
+    let own = sealed .before .before .before .before .before .before .before in
+    let a = own .before .before .before .before .before .before .before .before .before in
+    moved .tables2 .given ∙ sealed .tables .given ∙ found _ (a .pre) .tables-long
 
 same-length : tie.Need-same-length
 same-length c = search needs

@@ -29,7 +29,10 @@ same-length-2 c = search needs
 
 returns-2 : tie.Need-returns-2
 returns-2 c =
-    λ v. dirty-clear v _ _ _ (c .before .before .before .before .before .before .before .place-at .ensures v) _ _ (c .before .before .before .before .before .place .given .1) (c .before .before .put-place .ensures v)
+    let marked = c .before .before in
+    let clear = marked .before .before .before in
+    let placed = clear .before .before in
+    λ v. dirty-clear v _ _ _ (placed .place-at .ensures v) _ _ (clear .place .given .1) (marked .put-place .ensures v)
 
 pub mark-dirty-spec : {M : Type 1} → statement M
 mark-dirty-spec =

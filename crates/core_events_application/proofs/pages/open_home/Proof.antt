@@ -44,7 +44,10 @@ same-length-2 c = search needs
 
 returns-2 : tie.Need-returns-2
 returns-2 c =
-    opened-clear _ _ _ _ _ _ (c .before .before .before .before .before .before .before .before .before .before .before .place .given .1) (c .before .before .before .before .before .before .before .zero-page .ensures) (c .before .before .put-names .ensures)
+    let named = c .before .before in
+    let zeroed = named .before .before .before .before .before in
+    let clear = zeroed .before .before .before .before in
+    opened-clear _ _ _ _ _ _ (clear .place .given .1) (zeroed .zero-page .ensures) (named .put-names .ensures)
 
 pub open-home-spec : {M : Type 1} → statement M
 open-home-spec =

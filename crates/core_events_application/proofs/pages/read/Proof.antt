@@ -20,7 +20,8 @@ bring-in-requires c κs =
 told-requires : tie.Need-told-requires
 told-requires c κs =
     let brought = c .before .before .before .before .before .before .before .before .before in
-    let a = brought .before .before .before .before .before .before .before .before .before .before .before .before .before .before .before .before in
+    let own = brought .before .before .before .before .before .before .before in
+    let a = own .before .before .before .before .before .before .before .before .before in
     brought .tables .given ∙ found _ (a .pre) .tables-long
 
 same-length : tie.Need-same-length
@@ -47,14 +48,17 @@ cast-give-span c = search needs
 
 give-span-requires : tie.Need-give-span-requires
 give-span-requires c κs =
-    let own = c .before .before .before .before .before .before .before .before .before .before .before .before .before .before .before .before .before .before in
+    let brought = c .before .before .before .before .before .before .before .before .before in
+    let own = brought .before .before .before .before .before .before .before .before .before in
     let a = own .before .before .before .before .before .before .before .before .before in
-    read-fits _ _ _ _ _ _ _ _ _ _ _ (a .pre) _ (own .own-page .ensures) (c .before .before .before .before .before .before .before .before .before .frames .given)
+    read-fits _ _ _ _ _ _ _ _ _ _ _ (a .pre) _ (own .own-page .ensures) (brought .frames .given)
 
 told-requires-2 : tie.Need-told-requires-2
 told-requires-2 c κs =
-    let brought = c .before .before .before .before .before .before .before .before .before .before .before .before .before .before .before in
-    let a = brought .before .before .before .before .before .before .before .before .before .before .before .before .before .before .before .before in
+    let given = c .before .before .before in
+    let brought = given .before .before .before .before .before .before .before .before .before .before .before .before in
+    let own = brought .before .before .before .before .before .before .before in
+    let a = own .before .before .before .before .before .before .before .before .before in
     brought .tables .given ∙ found _ (a .pre) .tables-long
 
 same-length-4 : tie.Need-same-length-4
@@ -72,13 +76,14 @@ same-length-7 c = search needs
 returns-2 : tie.Need-returns-2
 returns-2 c =
     let given = c .before .before .before .before in
-    let bringing = given .before .before .before .before .before .before .before .before .before .before .before .before .before in
+    let tested = given .before .before .before .before in
+    let bringing = tested .before .before .before .before .before .before .before .before .before in
     let own = bringing .before .before .before .before .before .before in
     let a = own .before .before .before .before .before .before .before .before .before in
     let was = found _ (a .pre) in
     let brought = bringing .bring-in .ensures _ in
     c .told2 .ensures (a .args .setup) _ _ _ _ (brought .canonical (was .canonical)) (was .saved-long)
-    ∙ read-gives _ _ _ _ _ _ _ _ _ _ _ (a .pre) _ (own .own-page .ensures) _ _ (brought .is) (c .before .before .before .before .before .before .before .before .if1 .left)
+    ∙ read-gives _ _ _ _ _ _ _ _ _ _ _ (a .pre) _ (own .own-page .ensures) _ _ (brought .is) (tested .if1 .left)
     (given .give-span .ensures)
 
 pub read-spec : {M : Type 1} → statement M

@@ -32,15 +32,18 @@ zero-page-requires c κs =
 
 put-place-requires : tie.Need-put-place-requires
 put-place-requires c κs =
-    let own = c .before .before .before .before .before .before .before .before .before .before .before .before .before .before in
+    let opened = c .before .before .before .before .before .before .before .before in
+    let own = opened .before .before .before .before .before .before in
     let a = own .before .before .before .before .before .before .before .before .before in
-    uncloak-puts _ _ _ _ _ _ _ _ _ _ (a .pre) _ (own .own-page .ensures) (c .before .before .before .before .before .before .before .before .tables .given)
+    uncloak-puts _ _ _ _ _ _ _ _ _ _ (a .pre) _ (own .own-page .ensures) (opened .tables .given)
 
 told-requires : tie.Need-told-requires
 told-requires c κs =
-    let opened = c .before .before .before .before .before .before .before .before .before .before .before .before in
-    let a = opened .before .before .before .before .before .before .before .before .before .before .before .before .before .before .before in
-    c .before .before .tables2 .given ∙ opened .tables .given ∙ found _ (a .pre) .tables-long
+    let put = c .before .before in
+    let opened = put .before .before .before .before .before .before .before .before .before .before in
+    let own = opened .before .before .before .before .before .before in
+    let a = own .before .before .before .before .before .before .before .before .before in
+    put .tables2 .given ∙ opened .tables .given ∙ found _ (a .pre) .tables-long
 
 same-length : tie.Need-same-length
 same-length c = search needs

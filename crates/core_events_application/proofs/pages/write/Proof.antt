@@ -20,7 +20,8 @@ bring-in-requires c κs =
 told-requires : tie.Need-told-requires
 told-requires c κs =
     let brought = c .before .before .before .before .before .before .before .before .before in
-    let a = brought .before .before .before .before .before .before .before .before .before .before .before .before .before .before .before .before in
+    let own = brought .before .before .before .before .before .before .before in
+    let a = own .before .before .before .before .before .before .before .before .before in
     brought .tables .given ∙ found _ (a .pre) .tables-long
 
 same-length : tie.Need-same-length
@@ -47,21 +48,26 @@ cast-put-span c = search needs
 
 put-span-requires : tie.Need-put-span-requires
 put-span-requires c κs =
-    let own = c .before .before .before .before .before .before .before .before .before .before .before .before .before .before .before .before .before in
+    let brought = c .before .before .before .before .before .before .before .before in
+    let own = brought .before .before .before .before .before .before .before .before .before in
     let a = own .before .before .before .before .before .before .before .before .before in
-    write-fits _ _ _ _ _ _ _ _ _ _ _ (a .pre) _ (own .own-page .ensures) (c .before .before .before .before .before .before .before .before .frames .given)
+    write-fits _ _ _ _ _ _ _ _ _ _ _ (a .pre) _ (own .own-page .ensures) (brought .frames .given)
 
 mark-dirty-requires : tie.Need-mark-dirty-requires
 mark-dirty-requires c κs =
-    let own = c .before .before .before .before .before .before .before .before .before .before .before .before .before .before .before .before .before .before .before .before .before in
+    let brought = c .before .before .before .before .before .before .before .before .before .before .before .before .before .before in
+    let own = brought .before .before .before .before .before .before .before in
     let a = own .before .before .before .before .before .before .before .before .before in
-    write-marks _ _ _ _ _ _ _ _ _ _ _ (a .pre) _ (own .own-page .ensures) (c .before .before .before .before .before .before .before .before .before .before .before .before .before .before .tables .given)
+    write-marks _ _ _ _ _ _ _ _ _ _ _ (a .pre) _ (own .own-page .ensures) (brought .tables .given)
 
 told-requires-2 : tie.Need-told-requires-2
 told-requires-2 c κs =
-    let brought = c .before .before .before .before .before .before .before .before .before .before .before .before .before .before .before .before .before .before in
-    let a = brought .before .before .before .before .before .before .before .before .before .before .before .before .before .before .before .before in
-    c .before .before .tables2 .given ∙ brought .tables .given ∙ found _ (a .pre) .tables-long
+    let marked = c .before .before in
+    let stored = marked .before .before .before .before .before in
+    let brought = stored .before .before .before .before .before .before .before .before .before .before .before in
+    let own = brought .before .before .before .before .before .before .before in
+    let a = own .before .before .before .before .before .before .before .before .before in
+    marked .tables2 .given ∙ brought .tables .given ∙ found _ (a .pre) .tables-long
 
 same-length-4 : tie.Need-same-length-4
 same-length-4 c = search needs
@@ -76,14 +82,15 @@ returns-2 : tie.Need-returns-2
 returns-2 c =
     let marking = c .before .before .before .before in
     let put = marking .before .before .before .before in
-    let bringing = put .before .before .before .before .before .before .before .before .before .before .before .before in
+    let tested = put .before .before .before in
+    let bringing = tested .before .before .before .before .before .before .before .before .before in
     let own = bringing .before .before .before .before .before .before in
     let a = own .before .before .before .before .before .before .before .before .before in
     let was = found _ (a .pre) in
     let brought = bringing .bring-in .ensures _ in
     let marked = marking .mark-dirty .ensures (a .args .setup .pages) in
     c .told2 .ensures (a .args .setup) _ _ _ _ (marked .canonical (brought .canonical (was .canonical))) (was .saved-long)
-    ∙ write-stores _ _ _ _ _ _ _ _ _ _ _ (a .pre) _ (own .own-page .ensures) _ _ (brought .is) (c .before .before .before .before .before .before .before .before .before .before .before .if1 .left)
+    ∙ write-stores _ _ _ _ _ _ _ _ _ _ _ (a .pre) _ (own .own-page .ensures) _ _ (brought .is) (tested .if1 .left)
     (put .put-span .ensures)
     (marked .tables)
 
