@@ -11,15 +11,15 @@ use Rattle.core_accept.specs.Acceptable.{startableIn}
 use Rattle.core.specs.Started.{started, startedBy}
 
 module _ (s : Setup) (tables saved frames store supply : List ℕ) {taken : Bool}
-    (is : taken ≡ startableIn s tables saved frames store supply) {x y f t : List ℕ} (zero-tables : x ≡ zeros (length tables))
+    (is : taken ≡ startableIn s tables saved frames store supply) {x y : List ℕ} (zero-tables : x ≡ zeros (length tables))
     (zero-saved : y ≡ zeros (length saved)) where
-  pub starts : taken ≡ true → f ≡ zeros (length frames) → t ≡ zeros (length store)
+  pub starts : {f t : List ℕ} → taken ≡ true → f ≡ zeros (length frames) → t ≡ zeros (length store)
       → left (record { number = 0; seals = 0; unveils = 0; used = 0 }) x y f t [] ≡ started s tables saved frames store supply
   unfolding started
-  starts yes zero-frames zero-store = rw (sym is ∙ yes, zero-tables, zero-saved, zero-frames, zero-store)
+  starts so zero-frames zero-store = rw (sym is ∙ so, zero-tables, zero-saved, zero-frames, zero-store)
 
   pub starts-not : taken ≡ false
       → left (record { number = 10; seals = 0; unveils = 0; used = 0 }) x y frames store []
       ≡ started s tables saved frames store supply
   unfolding started
-  starts-not no = rw (sym is ∙ no, zero-tables, zero-saved)
+  starts-not unfit = rw (sym is ∙ unfit, zero-tables, zero-saved)

@@ -28,13 +28,13 @@ module _ (h : Handed) where
   -- not acceptable: 10
   pub ten : {a : Bool} {l : Left} → a ≡ acceptableHere h → a ≡ false → l ≡ keeps 10 h → l ≡ stepped h
   unfolding firstOf check
-  ten is no q =
-      q ∙ sym (refused-leaves h 10 (λ e. omega arith) (refuses-first h ∙ rw (sym is ∙ no)))
+  ten is unfit q =
+      q ∙ sym (refused-leaves h 10 (λ e. omega arith) (refuses-first h ∙ rw (sym is ∙ unfit)))
 
-  module _ {a : Bool} (is : a ≡ acceptableHere h) (yes : a ≡ true) where
+  module _ {a : Bool} (is : a ≡ acceptableHere h) (so : a ≡ true) where
     pub tested : Tested (h .setup) (h .tables)
     tested =
-        let r = both-hold (readable (h .setup) (h .tables) (h .saved)) _ (sym is ∙ yes) in
+        let r = both-hold (readable (h .setup) (h .tables) (h .saved)) _ (sym is ∙ so) in
         let words = is-readable _ _ _ (r .0) in
         let facts = accepted (givenIn h) (machineIn h) (r .1) in
         record {
@@ -47,7 +47,7 @@ module _ (h : Handed) where
     -- acceptable: the checks that follow 10
     pub later : {n : ℕ} → n ≡ laterChecks h → refuses h ≡ n
     unfolding firstOf check
-    later e = refuses-first h ∙ rw (sym is ∙ yes, e)
+    later e = refuses-first h ∙ rw (sym is ∙ so, e)
 
     pub refused-by : {n : ℕ} {l : Left} → n ≡ laterChecks h → (n ≡ 0 → ⊥) → l ≡ keeps n h → l ≡ stepped h
     refused-by {n} e some q = q ∙ sym (refused-leaves h n some (later e))
