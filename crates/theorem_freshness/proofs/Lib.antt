@@ -1,11 +1,12 @@
-pub mod Contents
-pub mod Turns
-pub mod Contexts
-pub mod Pages
-pub mod Tells
-pub mod Runs
-pub mod Gives
-pub mod Older
-pub mod Stopping
-pub mod Last
-pub mod Freshness
+-- What each file under Main.antt is for stands at its head.
+pub mod PageContents
+pub mod ContextFates
+pub mod ToldContexts
+pub mod ToldPages
+pub mod ToldByEvents
+pub mod PastIsTrue
+pub mod ReadAndResume
+pub mod OlderSignatures
+pub mod NotLatestStops
+pub mod LastWritten
+pub mod Main

@@ -8,8 +8,10 @@ use native.Mathlib.Omega.{arith}
 use lib.ListN.{length}
 use Rattle.rules.specs.Bytes.{sameBytes}
 use Rattle.rules.specs.Records.{Given, Machine, placeOf, namesOf, domainOf, withLife, onTables, frameBytes}
-use Rattle.rules.specs.Sealing.{Effect, done, failed, andThen, signature, sealPage, sealAt, sealNamed, seal, sealAll, unveiledTables, unveiled, unveil, bringInAt, bringIn}
-use Rattle.rules.specs.Events.{row, numbersIn, ownFrame, ownPlace, onRecords, onFrame, acting, onPage, touching, endedTables, ended, storeSpan, cloaked, zeroIfClear, uncloaked, markedDirty, turned, does}
+use Rattle.rules.specs.Sealing.{Effect, done, failed, andThen, signature, sealPage, sealAt, sealNamed, seal, sealAll, unveiledTables}
+use Rattle.rules.specs.Sealing.{unveiled, unveil, bringInAt, bringIn}
+use Rattle.rules.specs.Events.{row, numbersIn, ownFrame, ownPlace, onRecords, onFrame, acting, onPage, touching, endedTables, ended}
+use Rattle.rules.specs.Events.{storeSpan, cloaked, zeroIfClear, uncloaked, markedDirty, turned, does}
 use Rattle.rules.specs.declared.Setup.{Setup}
 use Rattle.rules.specs.declared.Tables.{Tables}
 use Rattle.rules.specs.declared.Asid.{Asid}
@@ -21,11 +23,13 @@ use Rattle.rules.specs.declared.Place.the-variants.{Public, Clear, Sealed}
 use Rattle.rules.specs.declared.Named.{Named}
 use Rattle.rules.specs.declared.Named.the-variants.{Nothing, Page}
 use Rattle.rules.specs.declared.Event.{Event}
-use Rattle.rules.specs.declared.Event.the-variants.{Begin, End, Map, Unmap, KernelRead, KernelWrite, Resume, Spawn, Leave, Cloak, Uncloak, Read, Write, Trap}
-use Rattle.theorem_reached.proofs.Passing.{Passed}
-use Rattle.theorem_reached.proofs.Seals.{Fits}
-use Rattle.theorem_reached.proofs.Touching.{first-fits}
-use Rattle.theorem_reached.proofs.Acting.{frame-below, cloak-own, read-own, write-own}
+use Rattle.rules.specs.declared.Event.the-variants.{Begin, End, Map, Unmap, KernelRead, KernelWrite, Resume, Spawn, Leave, Cloak, Uncloak}
+use Rattle.rules.specs.declared.Event.the-variants.{Read, Write, Trap}
+use Rattle.rules.proofs.Granting.{Unrefused}
+use Rattle.rules.proofs.Tests.{frame-below}
+use Rattle.theorem_reached.proofs.SealFrames.{Fits}
+use Rattle.theorem_reached.proofs.TouchCases.{first-fits}
+use Rattle.theorem_reached.proofs.OwnPages.{cloak-own, read-own, write-own}
 
 -- n has counted as m has, but for one unveil at most
 pub record Counts (m n : Machine) : Type 0 where
@@ -108,24 +112,24 @@ sealAll-counts g (f ∷ fs) m =
 
 -- the frames that an event seals are within the setup
 module _ (g : Given) (m : Machine) (space : ℕ) where
-  pub seals-fit : (e : Event) (new : ℕ) → Passed g m e new space → Fits (g .setup) ((row (g .setup) (m .tables) e) .seals)
+  pub seals-fit : (e : Event) (new : ℕ) → Unrefused g m e new space → Fits (g .setup) ((row (g .setup) (m .tables) e) .seals)
   unfolding row onRecords onFrame acting onPage touching numbersIn ownPlace
   seals-fit (Begin d c) new p = tt
   seals-fit (End d) new p = tt
   seals-fit (Map d v f) new p = tt
   seals-fit (Unmap d v) new p = tt
-  seals-fit (KernelRead f x) new p = (frame-below (g .setup) f (p .numbers), tt)
-  seals-fit (KernelWrite f x) new p = (frame-below (g .setup) f (p .numbers), tt)
+  seals-fit (KernelRead f x) new p = (frame-below (g .setup) f (p .granted .numbers), tt)
+  seals-fit (KernelWrite f x) new p = (frame-below (g .setup) f (p .granted .numbers), tt)
   seals-fit (Resume d c) new p = tt
   seals-fit (Spawn c u) new p = tt
   seals-fit (Leave c) new p = tt
   seals-fit (Cloak c v) new p =
-      ((cloak-own g m c v new space p) .frame (p .mapped), tt)
+      ((cloak-own g m c v new space p) .frame (p .granted .mapped), tt)
   seals-fit (Uncloak c v) new p = tt
   seals-fit (Read c v x) new p =
       let own = read-own g m c v new space x p in
-      first-fits g m (p .good) _ (own .frame (p .mapped)) (domainOf (m .tables) c) v (own .within)
+      first-fits g m (p .accepted) _ (own .frame (p .granted .mapped)) (domainOf (m .tables) c) v (own .within)
   seals-fit (Write c v x) new p =
       let own = write-own g m c v new space x p in
-      first-fits g m (p .good) _ (own .frame (p .mapped)) (domainOf (m .tables) c) v (own .within)
+      first-fits g m (p .accepted) _ (own .frame (p .granted .mapped)) (domainOf (m .tables) c) v (own .within)
   seals-fit (Trap c k mask) new p = tt

@@ -14,13 +14,13 @@ use Rattle.rules.specs.declared.Setup.{Setup}
 use Rattle.rules.specs.declared.Tables.{Tables}
 use Rattle.rules.specs.declared.TrapKind.the-variants.{Call}
 use Rattle.rules.specs.declared.Event.{Event}
-use Rattle.rules.specs.declared.Event.the-variants.{Begin, End, Map, Unmap, KernelRead, KernelWrite, Resume, Spawn, Leave, Cloak, Uncloak, Read, Write, Trap}
-use Rattle.rules.proofs.Facts.{passes, all-at}
+use Rattle.rules.specs.declared.Event.the-variants.{Begin, End, Map, Unmap, KernelRead, KernelWrite, Resume, Spawn, Leave, Cloak, Uncloak}
+use Rattle.rules.specs.declared.Event.the-variants.{Read, Write, Trap}
+use Rattle.rules.proofs.Tests.{passes, all-at, same-bytes}
 use Rattle.rules.proofs.Computing.{computing}
-use Rattle.theorem_reached.proofs.Bringing.{same-bytes}
 use Rattle.theorem_secrecy.specs.Secrets.{registerOf, mayBeSeen, SameButSecrets, DifferInSecrets, DifferOnlyInSecrets, transcript}
 use Rattle.theorem_secrecy.specs.TwoServices.{one, other}
-use Rattle.theorem_secrecy.proofs.Secrecy.{same-transcript}
+use Rattle.theorem_secrecy.proofs.Main.{same-transcript}
 
 -- Each run gives what is written down for it: the service is given another byte and other registers in the one than in the other,
 -- and the kernel the same.

@@ -1,10 +1,11 @@
-pub mod LetGo
+-- What each file under Main.antt is for stands at its head.
+pub mod FreedFrames
 pub mod Alike
-pub mod Registers
-pub mod Operations
-pub mod Touched
-pub mod Events
-pub mod Runs
-pub mod Starts
-pub mod Secrecy
+pub mod ShownRegisters
+pub mod CloakAlike
+pub mod ReadAndWriteAlike
+pub mod EventsAlike
+pub mod TwoRuns
+pub mod TwoStarts
+pub mod Main
 pub mod Example

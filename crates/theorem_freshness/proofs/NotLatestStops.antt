@@ -1,0 +1,104 @@
+-- A page that is touched while its frame holds anything but its latest signature: the answer is 8 and its domain is Stopped. An
+-- older signature of the page is such a thing where the signatures differ. Assumes nothing.
+use mathlib.Core.Path.{_≡_, refl, sym, _∙_}
+use mathlib.Core.Logic.{_≢_}
+use mathlib.Core.List.{List}
+use Prim.Native.Nat.{ℕ, _+_, _≤_, _<_}
+use native.Mathlib.Omega.{arith}
+use lib.ListN.{length}
+use lib.Dec.{eqb-refl}
+use Rattle.rules.specs.Records.{Given, Machine, lifeOf, placeOf, domainOf, frameBytes}
+use Rattle.rules.specs.Sealing.{Effect, failed, andThen, signature, bringIn}
+use Rattle.rules.specs.Events.{ownFrame, does}
+use Rattle.rules.specs.Answers.{refusal, performed, perform, outset, stepFrom, step}
+use Rattle.rules.specs.declared.Asid.{Asid}
+use Rattle.rules.specs.declared.Gvpn.{Gvpn}
+use Rattle.rules.specs.declared.Gppn.{Gppn}
+use Rattle.rules.specs.declared.Ctc.{Ctc}
+use Rattle.rules.specs.declared.Span.{Span}
+use Rattle.rules.specs.declared.Life.the-variants.{Stopped}
+use Rattle.rules.specs.declared.Place.the-variants.{Sealed}
+use Rattle.rules.specs.declared.Event.{Event}
+use Rattle.rules.specs.declared.Event.the-variants.{Read, Write}
+use Rattle.rules.proofs.Changes.{life-same}
+use Rattle.rules.proofs.Facts.{Accepted}
+use Rattle.rules.proofs.Granting.{Unrefused, unrefused}
+use Rattle.theorem_reached.proofs.FramesAndSlots.{Within}
+use Rattle.theorem_reached.proofs.SealFrames.{sealAll-accepted}
+use Rattle.theorem_reached.proofs.PageFates.{Quiet, and-then, sealAll-quiet}
+use Rattle.theorem_reached.proofs.BringIn.{brings-failed}
+use Rattle.theorem_reached.proofs.OwnPages.{read-own, write-own}
+use Rattle.theorem_reached.proofs.Counts.{seals-fit}
+use Rattle.theorem_reached.proofs.DoneOrRefused.{outset-quiet}
+use Rattle.theorem_freshness.specs.Stale.{Touch, reading, writing, touch, touched, Stops, Distinct}
+use Rattle.theorem_freshness.proofs.OlderSignatures.{Since, quiet-since, bears-new}
+
+-- an event that is refused by no check is performed
+step-performed : (g : Given) (e : Event) (new buffer : List ℕ) (m : Machine) → refusal g (outset m) e (length new) (length buffer) ≡ 0
+    → step g e new buffer m ≡ performed (perform g e new (outset m)) buffer
+unfolding step stepFrom
+step-performed g e new buffer m q = rw q
+
+brings-stop : (g : Given) (f : Gppn) (d : Asid) (v : Gvpn) (q : Machine) → Accepted g q → d .0 < g .setup .domains → (k : ℕ)
+    → placeOf (g .setup) (q .tables) d v ≡ Sealed k → frameBytes (g .setup) f q ≢ signature g k → (next : Machine → Effect)
+    → let e = andThen (bringIn g f d v q) next in (e .number ≡ 8) × (lifeOf (e .machine .tables) d ≡ Stopped)
+unfolding andThen failed
+brings-stop g f d v q accepted hd k place apart next =
+    rw (brings-failed g f d v q k place apart)
+    (refl, life-same (q .tables) d Stopped (omega (arith, accepted .looks .shapes .domains, accepted .looks .sizes .domains)))
+
+-- a context that touches its own page, where nothing but its frame's bytes can speak against it
+module _ (g : Given) (m : Machine) (w : Touch) (c : Ctc) (v : Gvpn) (x : Span) (new buffer : List ℕ)
+    (ok : refusal g (outset m) (touch w c v x) (length new) (length buffer) ≡ 0) where
+  abbrev d : Asid
+  d = domainOf (m .tables) c
+
+  abbrev q : Machine
+  q = touched g m (touch w c v x)
+
+  p : Unrefused g (outset m) (touch w c v x) (length new) (length buffer)
+  p = unrefused g (outset m) (touch w c v x) (length new) (length buffer) ok
+
+  touch-within : Within (g .setup) d v
+  unfolding outset
+  touch-within = at w p
+    where
+      at : (w : Touch) → Unrefused g (outset m) (touch w c v x) (length new) (length buffer) → Within (g .setup) d v
+      at reading p = (read-own g (outset m) c v (length new) (length buffer) x p) .within
+      at writing p = (write-own g (outset m) c v (length new) (length buffer) x p) .within
+
+  touched-accepted : Accepted g q
+  unfolding outset
+  touched-accepted = sealAll-accepted g _ (outset m) (p .accepted) (seals-fit g (outset m) (length buffer) (touch w c v x) (length new) p) (p .granted .signatures)
+
+  touched-quiet : Quiet (g .setup) d v m q
+  unfolding outset
+  touched-quiet =
+      and-then (outset-quiet g (touch w c v x) new buffer m d v)
+      (sealAll-quiet g d v touch-within _ (outset m) (p .accepted) (seals-fit g (outset m) (length buffer) (touch w c v x) (length new) p) (p .granted .signatures))
+
+  -- the page is away, and its frame holds something else
+  module _ (k : ℕ) (place : placeOf (g .setup) (q .tables) d v ≡ Sealed k) where
+    pub touch-stops : frameBytes (g .setup) (ownFrame (g .setup) (m .tables) c v) (touched g m (touch w c v x)) ≢ signature g k
+        → Stops (domainOf (m .tables) c) (step g (touch w c v x) new buffer m)
+    unfolding performed perform does outset
+    touch-stops apart = rw (step-performed g (touch w c v x) new buffer m ok) (at w place apart touched-accepted (touch-within .domain))
+      where
+        at : (w : Touch) → placeOf (g .setup) ((touched g m (touch w c v x)) .tables) d v ≡ Sealed k
+            → frameBytes (g .setup) (ownFrame (g .setup) (m .tables) c v) (touched g m (touch w c v x)) ≢ signature g k
+            → Accepted g (touched g m (touch w c v x)) → d .0 < g .setup .domains
+            → let e = perform g (touch w c v x) new (outset m) in (e .number ≡ 8) × (lifeOf (e .machine .tables) d ≡ Stopped)
+        at reading place apart accepted hd = brings-stop g _ d v (touched g m (Read c v x)) accepted hd k place apart _
+        at writing place apart accepted hd = brings-stop g _ d v (touched g m (Write c v x)) accepted hd k place apart _
+
+    -- such as a signature from before what it bears since
+    pub touch-replayed : Distinct g → (j : ℕ) → Since (g .setup) (domainOf (m .tables) c) v (j + 1) m
+        → frameBytes (g .setup) (ownFrame (g .setup) (m .tables) c v) (touched g m (touch w c v x)) ≡ signature g j
+        → Stops (domainOf (m .tables) c) (step g (touch w c v x) new buffer m)
+    touch-replayed distinct j since held =
+        let accepted = touched-accepted in
+        let s = quiet-since (g .setup) d v (j + 1) m q touched-quiet since in
+        let up : j + 1 ≤ k = bears-new (j + 1) k (Sealed k) (rw place at (s .place)) (eqb-refl k) in
+        let low : k < q .tables .used = accepted .looks .agrees .sealed d v k (touch-within .domain) (touch-within .page) place in
+        touch-stops
+        (λ same. distinct j k (omega (arith, accepted .looks .agrees .used)) (omega (arith, accepted .looks .agrees .used)) (omega arith) (sym held ∙ same))

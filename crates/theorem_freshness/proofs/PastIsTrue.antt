@@ -1,0 +1,91 @@
+-- What a run's past tells of contexts and pages is true of the machine that it reaches. Assumes nothing.
+use mathlib.Core.Path.{_≡_, refl, sym, ap, _∙_}
+use mathlib.Core.List.{List, [], _∷_}
+use mathlib.Core.Bool.{Bool, true, false, not, cond, true≢false}
+use Prim.Native.Nat.{ℕ}
+use lib.ListN.{length, getD}
+use lib.Dec.{eqb}
+use borrow.Author.Tests.{eqb-true}
+use Rattle.rules.specs.Sizes.{maxContexts}
+use Rattle.rules.specs.Records.{Given, Machine, freeContext, activityOf, isPublic}
+use Rattle.rules.specs.Answers.{performed, refused, outset, step, start}
+use Rattle.rules.specs.Runs.{Ask, after}
+use Rattle.rules.specs.declared.State.{State}
+use Rattle.rules.specs.declared.Asid.{Asid}
+use Rattle.rules.specs.declared.Gvpn.{Gvpn}
+use Rattle.rules.specs.declared.Ctc.{Ctc}
+use Rattle.rules.specs.declared.Activity.the-variants.{Free}
+use Rattle.rules.specs.declared.Place.{Place}
+use Rattle.rules.specs.declared.Event.{Event}
+use Rattle.rules.proofs.Lists.{getD-fresh}
+use Rattle.rules.proofs.Granting.{Unrefused}
+use Rattle.theorem_reached.proofs.FramesAndSlots.{Within}
+use Rattle.theorem_reached.proofs.PageFates.{kept, Fate, actOf}
+use Rattle.theorem_reached.proofs.DoneOrRefused.{step-either, outset-quiet, step-fate}
+use Rattle.theorem_reached.proofs.Start.{start-state}
+use Rattle.theorem_reached.proofs.EveryRun.{start-public}
+use Rattle.theorem_freshness.specs.Past.{Past, pastFrom, unheard, contextBy, pageAfter, pageBy}
+use Rattle.theorem_freshness.proofs.PageContents.{quiet-contents}
+use Rattle.theorem_freshness.proofs.ToldContexts.{KnownContext, known-freed, running-home, step-knows}
+use Rattle.theorem_freshness.proofs.ToldPages.{KnownPage, contents-whole, fate-known, same-known}
+use Rattle.theorem_freshness.proofs.ToldByEvents.{tells}
+
+pub record Known (g : Given) (m : Machine) (h : List Past) : Type 0 where
+  pub contexts : (c : Ctc) → KnownContext m c (contextBy h c)
+  pub pages : (d : Asid) (v : Gvpn) → Within (g .setup) d v → KnownPage (g .setup) d v m (pageBy h d v)
+
+-- an event that is granted has passed all checks
+pub granted-passed : (g : Given) (e : Event) (new buffer : List ℕ) (m : Machine) → (step g e new buffer m) .number ≡ 0
+    → Unrefused g (outset m) e (length new) (length buffer)
+unfolding performed refused
+granted-passed g e new buffer m =
+    step-either g e new buffer m (λ o. o .number ≡ 0 → Unrefused g (outset m) e (length new) (length buffer)) (λ p _. p) (λ n _ ne q. absurd (ne q))
+
+module _ (g : Given) (e : Event) (new buffer : List ℕ) (m : Machine) (h : List Past) (known : Known g m h) where
+  abbrev n : Machine
+  n = (step g e new buffer m) .machine
+
+  page-known : (d : Asid) (v : Gvpn) → Within (g .setup) d v → (b : Bool) → eqb ((step g e new buffer m) .number) 0 ≡ b
+      → Fate (g .setup) d v m n (cond b (actOf (g .setup) (m .tables) e new d v) kept)
+      → KnownPage (g .setup) d v n (cond b (pageAfter e new (contextBy h) d v (pageBy h d v)) (pageBy h d v))
+  unfolding outset
+  page-known d v hd true q fate =
+      let p = granted-passed g e new buffer m (eqb-true _ _ q) in
+      let k = known .pages d v hd in
+      fate-known (g .setup) d v m n (pageBy h d v) (pageAfter e new (contextBy h) d v (pageBy h d v)) k
+      (λ private. sym (ap length (quiet-contents (g .setup) d v m (outset m) (outset-quiet g e new buffer m d v))) ∙ contents-whole g (outset m) (p .accepted) d v hd private) (actOf (g .setup) (m .tables) e new d v) fate
+      (tells g (outset m) new (length buffer) (contextBy h) (λ c r. running-home m c (contextBy h c) (known .contexts c) r) d v hd (pageBy h d v) (k .private) e p)
+  page-known d v hd false q fate = same-known (g .setup) d v m n (pageBy h d v) (known .pages d v hd) fate
+
+  pub step-known : Known g n (record { event = e; new = new; number = (step g e new buffer m) .number } ∷ h)
+  unfolding contextBy pageBy
+  step-known =
+      record {
+        contexts = λ c. step-knows g e new buffer m (contextBy h) (known .contexts) c;
+        pages = λ d v hd. page-known d v hd (eqb ((step g e new buffer m) .number) 0) refl (step-fate g e new buffer m d v hd);
+      }
+
+after-known : (g : Given) (asks : List Ask) (m : Machine) (h : List Past) → Known g m h → Known g (after g m asks) (pastFrom g m asks h)
+unfolding after pastFrom
+after-known g [] m h known = known
+after-known g (a ∷ asks) m h known = after-known g asks _ _ (step-known g (a .event) (a .new) (a .buffer) m h known)
+
+start-free : (g : Given) (frames store : List ℕ) (c : Ctc) → activityOf ((start g frames store) .tables) c ≡ Free
+start-free g frames store c =
+    ap (λ (x : State). (getD (x .tables .contexts) (c .0) freeContext) .activity) (start-state g frames store)
+    ∙ ap (λ r. r .activity) (getD-fresh maxContexts (c .0) freeContext)
+
+pub run-known : (g : Given) (frames store : List ℕ) (asks : List Ask)
+    → Known g (after g (start g frames store) asks) (pastFrom g (start g frames store) asks [])
+unfolding contextBy pageBy
+run-known g frames store asks =
+    after-known g asks (start g frames store) []
+    (record {
+      contexts = λ c. known-freed (start g frames store) (start g frames store) c unheard (start-free g frames store c);
+      pages =
+          λ d v hd.
+          record {
+            private = sym (ap (λ (p : Place). not (isPublic p)) (start-public g frames store d v));
+            bytes = λ p. absurd (true≢false (sym p));
+          };
+    })
