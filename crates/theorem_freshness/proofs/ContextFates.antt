@@ -1,16 +1,16 @@
 -- What becomes of a context in an event: it stays, is freed, runs, or is kept with the registers that it brought. Assumes nothing.
 use mathlib.Core.Path.{_≡_, refl, sym, ap, _∙_}
-use mathlib.Core.List.{List, []}
+use mathlib.Core.List.{List}
 use mathlib.Core.Bool.{Bool, true, false, cond}
 use Prim.Native.Nat.{ℕ, _<_}
 use native.Mathlib.Omega.{arith}
 use lib.ListN.{length, getD}
 use lib.Dec.{T}
 use borrow.Author.Tests.{eqb-true, eqb-false}
-use Rattle.rules.specs.Bytes.{zeros, wordsIn, sameBytes}
+use Rattle.rules.specs.Bytes.{zeros, wordsIn}
 use Rattle.rules.specs.Records.{Given, Machine, freeContext, zeroRegisters, activityOf, placeOf, savedOf, domainOf, isIn, withActivity}
-use Rattle.rules.specs.Records.{onTables, withLife, frameBytes}
-use Rattle.rules.specs.Sealing.{Effect, done, failed, andThen, signature, sealAll, unveiledTables, unveiled, unveil, bringInAt, bringIn}
+use Rattle.rules.specs.Records.{onTables, withLife}
+use Rattle.rules.specs.Sealing.{Effect, done, failed, andThen, sealAll, unveiledTables, unveiled, bringIn}
 use Rattle.rules.specs.Events.{row, numbersIn, ownFrame, ended, storeSpan, cloaked, zeroIfClear, uncloaked, markedDirty, turned, does}
 use Rattle.rules.specs.Answers.{perform}
 use Rattle.rules.specs.declared.Setup.{Setup}
@@ -22,7 +22,7 @@ use Rattle.rules.specs.declared.Ctc.{Ctc}
 use Rattle.rules.specs.declared.ContextRecord.{ContextRecord}
 use Rattle.rules.specs.declared.Registers.{Registers}
 use Rattle.rules.specs.declared.TrapKind.{TrapKind}
-use Rattle.rules.specs.declared.Life.the-variants.{Live, Stopped}
+use Rattle.rules.specs.declared.Life.the-variants.{Live}
 use Rattle.rules.specs.declared.Activity.{Activity}
 use Rattle.rules.specs.declared.Activity.the-variants.{Free, Running, Kept}
 use Rattle.rules.specs.declared.Place.{Place}
@@ -35,6 +35,7 @@ use Rattle.rules.proofs.Tests.{each, context-below}
 use Rattle.rules.proofs.Facts.{Accepted}
 use Rattle.rules.proofs.Granting.{Unrefused}
 use Rattle.rules.proofs.PageNumbers.{same-context}
+use Rattle.theorem_reached.proofs.BringIn.{bring-in-cases}
 use Rattle.theorem_reached.proofs.SealFrames.{sealAll-apart, sealAll-accepted}
 use Rattle.theorem_reached.proofs.Counts.{seals-fit}
 use Rattle.theorem_reached.proofs.EndOfDomain.{ended-activity, ended-saved}
@@ -129,18 +130,11 @@ ended-turns s d m c false q = (ended-activity s d (m .tables) c ∙ rw q, ap (λ
 -- events on pages and frames let the contexts be
 bring-in-aside : (g : Given) (f : Gppn) (d : Asid) (v : Gvpn) (m : Machine) (next : Machine → Effect)
     → ((n : Machine) → Aside n ((next n) .machine)) → Aside m ((andThen (bringIn g f d v m) next) .machine)
-unfolding andThen bringIn bringInAt unveil unveiled unveiledTables done failed
-bring-in-aside g f d v m next aside = placed (placeOf (g .setup) (m .tables) d v)
-  where
-    compared : (k : ℕ) (b : Bool)
-        → Aside m ((andThen (cond b (done (unveiled g f d v k m) []) (failed (onTables (withLife d Stopped) m))) next) .machine)
-    compared k true = let a = aside (unveiled g f d v k m) in record { contexts = a .contexts; saved = a .saved }
-    compared k false = record { contexts = refl; saved = refl }
-
-    placed : (p : Place) → Aside m ((andThen (bringInAt g f d v p m) next) .machine)
-    placed Public = aside m
-    placed (Clear h w) = aside m
-    placed (Sealed k) = compared k (sameBytes (frameBytes (g .setup) f m) (signature g k))
+unfolding andThen unveiled unveiledTables done failed
+bring-in-aside g f d v m next aside =
+    bring-in-cases g f d v m (λ e. Aside m ((andThen e next) .machine)) (aside m)
+    (λ k. let a = aside (unveiled g f d v k m) in record { contexts = a .contexts; saved = a .saved })
+    (record { contexts = refl; saved = refl })
 
 uncloaked-aside : (s : Setup) (d : Asid) (v : Gvpn) (m : Machine) → Aside m (uncloaked s d v m)
 unfolding uncloaked zeroIfClear

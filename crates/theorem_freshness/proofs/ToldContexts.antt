@@ -22,8 +22,8 @@ use Rattle.rules.specs.declared.Activity.the-variants.{Free, Running, Kept}
 use Rattle.rules.specs.declared.Event.{Event}
 use Rattle.rules.specs.declared.Event.the-variants.{Begin, End, Map, Unmap, KernelRead, KernelWrite, Resume, Spawn, Leave, Cloak, Uncloak}
 use Rattle.rules.specs.declared.Event.the-variants.{Read, Write, Trap}
+use Rattle.rules.proofs.Tests.{cond-same, each}
 use Rattle.rules.proofs.PageNumbers.{same-domain, same-context}
-use Rattle.rules.proofs.Tests.{each}
 use Rattle.rules.proofs.Granting.{Unrefused}
 use Rattle.theorem_reached.proofs.DoneOrRefused.{step-either}
 use Rattle.theorem_freshness.specs.Past.{OfContext, sameContext, contextAfter}
@@ -164,10 +164,6 @@ module _ (g : Given) (m : Machine) (new : List ℕ) (space : ℕ) (before : Ctc 
   knows (Read u v x) p n h = let-be n h
   knows (Write u v x) p n h = let-be n h
   knows (Trap u k mask) p n h = traps u k mask p n h
-
-cond-same : {A : Type 0} (b : Bool) (x : A) → cond b x x ≡ x
-cond-same true x = refl
-cond-same false x = refl
 
 outset-same : (m : Machine) (c : Ctc) → Turned same m (outset m) c
 unfolding outset

@@ -1,47 +1,39 @@
 -- The answer 10 is for machines that are not acceptable, and for no other. Assumes nothing.
-use mathlib.Core.Path.{_≡_, refl, sym, _∙_}
+use mathlib.Core.Path.{ap, _≡_, refl, sym, _∙_}
 use mathlib.Core.Logic.{_≢_}
-use mathlib.Core.List.{List, [], _∷_}
-use mathlib.Core.Bool.{Bool, true, false, cond, not}
+use mathlib.Core.List.{List, []}
+use mathlib.Core.Bool.{not}
 use Prim.Native.Nat.{ℕ}
 use native.Mathlib.Omega.{arith}
 use lib.ListN.{length}
 use lib.Dec.{T}
 use borrow.Author.Tests.{ne-eqb}
-use Rattle.rules.specs.Bytes.{sameBytes}
-use Rattle.rules.specs.Records.{Given, Machine, placeOf, domainOf, withLife, onTables, frameBytes}
+use Rattle.rules.specs.Records.{Given, Machine, domainOf}
 use Rattle.rules.specs.Sound.{acceptable}
-use Rattle.rules.specs.Sealing.{Effect, done, failed, andThen, signature, unveiled, unveil, bringInAt, bringIn, sealAll}
+use Rattle.rules.specs.Sealing.{Effect, done, failed, andThen, unveiled, bringIn, sealAll}
 use Rattle.rules.specs.Events.{Row, row, ownFrame, does}
-use Rattle.rules.specs.Answers.{Check, check, firstOf, checks, refusal, refused, performed, perform, outset, step}
+use Rattle.rules.specs.Answers.{check, firstOf, checks, refusal, refused, performed, perform, outset, step}
 use Rattle.rules.specs.declared.Setup.{Setup}
 use Rattle.rules.specs.declared.Tables.{Tables}
 use Rattle.rules.specs.declared.Asid.{Asid}
 use Rattle.rules.specs.declared.Gvpn.{Gvpn}
 use Rattle.rules.specs.declared.Gppn.{Gppn}
-use Rattle.rules.specs.declared.Life.the-variants.{Stopped}
-use Rattle.rules.specs.declared.Place.{Place}
-use Rattle.rules.specs.declared.Place.the-variants.{Public, Clear, Sealed}
 use Rattle.rules.specs.declared.Event.{Event}
 use Rattle.rules.specs.declared.Event.the-variants.{Begin, End, Map, Unmap, KernelRead, KernelWrite, Resume, Spawn, Leave, Cloak, Uncloak}
 use Rattle.rules.specs.declared.Event.the-variants.{Read, Write, Trap}
+use Rattle.rules.proofs.Checks.{first-skipped, first-other}
+use Rattle.rules.proofs.Tests.{passes}
 use Rattle.rules.proofs.Facts.{Accepted, outset-accepted}
+use Rattle.theorem_reached.proofs.BringIn.{bring-in-cases}
 use Rattle.theorem_reached.proofs.DoneOrRefused.{step-either}
 
 -- an event that is done is answered 0 or 8
-bring-in-answer : (g : Given) (f : Gppn) (d : Asid) (v : Gvpn) (m : Machine) (next : Machine → Effect) → ((n : Machine) → (next n) .number ≡ 0)
-    → (andThen (bringIn g f d v m) next) .number ≢ 10
-unfolding andThen bringIn bringInAt unveil done failed
-bring-in-answer g f d v m next is-done = placed (placeOf (g .setup) (m .tables) d v)
-  where
-    compared : (k : ℕ) (b : Bool) → (andThen (cond b (done (unveiled g f d v k m) []) (failed (onTables (withLife d Stopped) m))) next) .number ≢ 10
-    compared k true = omega (arith, is-done (unveiled g f d v k m))
-    compared k false = omega arith
-
-    placed : (p : Place) → (andThen (bringInAt g f d v p m) next) .number ≢ 10
-    placed Public = omega (arith, is-done m)
-    placed (Clear h w) = omega (arith, is-done m)
-    placed (Sealed k) = compared k (sameBytes (frameBytes (g .setup) f m) (signature g k))
+bring-in-answer : (g : Given) (f : Gppn) (d : Asid) (v : Gvpn) (m : Machine) (next : Machine → Effect)
+    → ((n : Machine) → (next n) .number ≡ 0) → (andThen (bringIn g f d v m) next) .number ≢ 10
+unfolding andThen done failed
+bring-in-answer g f d v m next is-done =
+    bring-in-cases g f d v m (λ e. (andThen e next) .number ≢ 10) (omega (arith, is-done m))
+    (λ k. omega (arith, is-done (unveiled g f d v k m))) (omega arith)
 
 does-answer : (g : Given) (t : Tables) (e : Event) (new : List ℕ) (m : Machine) → (does g t e new m) .number ≢ 10
 unfolding does done
@@ -61,11 +53,6 @@ does-answer g t (Write c v x) new m = bring-in-answer g (ownFrame (g .setup) t c
 does-answer g t (Trap c k mask) new m = omega arith
 
 -- and one that is refused by a check after that for 10, with its number
-other : (n : ℕ) (b : Bool) (cs : List Check) → n ≢ 10 → firstOf cs ≢ 10 → firstOf (check n b ∷ cs) ≢ 10
-unfolding firstOf check
-other n true cs here rest = here
-other n false cs here rest = rest
-
 none : firstOf [] ≢ 10
 unfolding firstOf
 none = omega arith
@@ -73,21 +60,17 @@ none = omega arith
 checks-answer : (s : Setup) (t : Tables) (e : Event) (r : Row) (new room : ℕ) → firstOf (checks s t e r new room) ≢ 10
 unfolding checks
 checks-answer s t e r new room =
-    other 1 _ _ (omega arith)
-    (other 2 _ _ (omega arith)
-    (other 3 _ _ (omega arith)
-    (other 11 _ _ (omega arith)
-    (other 4 _ _ (omega arith) (other 7 _ _ (omega arith) (other 5 _ _ (omega arith) (other 6 _ _ (omega arith) none)))))))
-
-passed-on : (n : ℕ) (b : Bool) (cs : List Check) → T b → firstOf (check n (not b) ∷ cs) ≡ firstOf cs
-unfolding firstOf check
-passed-on n true cs h = refl
-passed-on n false cs h = absurd h
+    first-other 10 1 _ _ (omega arith)
+    (first-other 10 2 _ _ (omega arith)
+    (first-other 10 3 _ _ (omega arith)
+    (first-other 10 11 _ _ (omega arith)
+    (first-other 10 4 _ _ (omega arith)
+    (first-other 10 7 _ _ (omega arith) (first-other 10 5 _ _ (omega arith) (first-other 10 6 _ _ (omega arith) none)))))))
 
 refusal-answer : (g : Given) (m : Machine) → T (acceptable g m) → (e : Event) (new room : ℕ) → refusal g m e new room ≢ 10
 unfolding refusal
 refusal-answer g m ok e new room ten =
-    checks-answer (g .setup) (m .tables) e (row (g .setup) (m .tables) e) new room (sym (passed-on 10 (acceptable g m) _ ok) ∙ ten)
+    checks-answer (g .setup) (m .tables) e (row (g .setup) (m .tables) e) new room (sym (first-skipped 10 _ _ (ap not (passes (acceptable g m) ok))) ∙ ten)
 
 pub step-answer : (g : Given) (e : Event) (new buffer : List ℕ) (m : Machine) → Accepted g m → (step g e new buffer m) .number ≢ 10
 unfolding performed refused perform

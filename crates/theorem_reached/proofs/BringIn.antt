@@ -2,7 +2,7 @@
 use mathlib.Core.Path.{_≡_, refl, sym, ap, _∙_}
 use mathlib.Core.Logic.{_≢_}
 use mathlib.Core.List.{List, []}
-use mathlib.Core.Bool.{Bool, true, false, true≢false}
+use mathlib.Core.Bool.{cond, Bool, true, false, true≢false}
 use Prim.Native.Nat.{ℕ, _+_, _<_}
 use native.Mathlib.Omega.{arith}
 use lib.ListN.{length, set}
@@ -92,6 +92,21 @@ module _ (g : Given) (n : Machine) (accepted : Accepted g n) (f : Gppn) (hf : f 
       compared false q =
           rw (unveil-compares g f d v k n false q)
           (e k p none (λ same. true≢false (sym (bytes-same (signature g k)) ∙ ap (λ (x : List ℕ). sameBytes x (signature g k)) (sym same) ∙ q)))
+
+-- what bringing in can come to, whatever the page and the frame are
+pub bring-in-cases : (g : Given) (f : Gppn) (d : Asid) (v : Gvpn) (m : Machine) (P : Effect → Type 0) → P (done m [])
+    → ((k : ℕ) → P (done (unveiled g f d v k m) [])) → P (failed (onTables (withLife d Stopped) m)) → P (bringIn g f d v m)
+unfolding bringIn bringInAt unveil
+bring-in-cases g f d v m P same opened stopped = placed (placeOf (g .setup) (m .tables) d v)
+  where
+    compared : (k : ℕ) (b : Bool) → P (cond b (done (unveiled g f d v k m) []) (failed (onTables (withLife d Stopped) m)))
+    compared k true = opened k
+    compared k false = stopped
+
+    placed : (p : Place) → P (bringInAt g f d v p m)
+    placed Public = same
+    placed (Clear h w) = same
+    placed (Sealed k) = compared k (sameBytes (frameBytes (g .setup) f m) (signature g k))
 
 -- which of them it is, told from the record and the frame
 module _ (g : Given) (f : Gppn) (d : Asid) (v : Gvpn) (n : Machine) where

@@ -32,8 +32,8 @@ use Rattle.rules.specs.declared.Activity.the-variants.{Free, Running, Kept}
 use Rattle.rules.specs.declared.Place.the-variants.{Public}
 use Rattle.rules.specs.declared.Named.{Named}
 use Rattle.rules.specs.declared.Named.the-variants.{Nothing, Page}
+use Rattle.rules.proofs.Tests.{cond-map, cond-same, each, all}
 use Rattle.rules.proofs.Parts.{length-zeros, length-withPart, part-outside}
-use Rattle.rules.proofs.Tests.{each, all}
 use Rattle.rules.proofs.Lists.{getD-mapFrom, length-mapFrom, getD-sets-in, getD-sets-before, getD-sets-past}
 use Rattle.rules.proofs.Soundness.{Sound, owned-public}
 use Rattle.rules.proofs.Facts.{Accepted, accepted-kept}
@@ -52,32 +52,20 @@ pub ended-activity : (s : Setup) (d : Asid) (t : Tables) (c : Ctc)
 unfolding endedTables
 ended-activity s d t c =
     ap (λ r. r .activity) (List·getD-map (λ r. cond (isIn d (r .activity)) freeContext r) (t .contexts) (c .0) freeContext)
-    ∙ pick (isIn d (activityOf t c)) (getD (t .contexts) (c .0) freeContext)
-  where
-    pick : (b : Bool) (r : ContextRecord) → (cond b freeContext r) .activity ≡ cond b Free (r .activity)
-    pick true r = refl
-    pick false r = refl
+    ∙ cond-map (λ (r : ContextRecord). r .activity) (isIn d (activityOf t c)) freeContext _
 
 pub ended-names : (s : Setup) (d : Asid) (t : Tables) (f : Gppn) → namesOf (endedTables s d t) f ≡ cond (namesIn d (namesOf t f)) Nothing (namesOf t f)
 unfolding endedTables
 ended-names s d t f =
     ap (λ r. r .names) (List·getD-map (λ r. cond (namesIn d (r .names)) openFrame r) (t .frames) (f .0) openFrame)
-    ∙ pick (namesIn d (namesOf t f)) (getD (t .frames) (f .0) openFrame)
-  where
-    pick : (b : Bool) (r : FrameRecord) → (cond b openFrame r) .names ≡ cond b Nothing (r .names)
-    pick true r = refl
-    pick false r = refl
+    ∙ cond-map (λ (r : FrameRecord). r .names) (namesIn d (namesOf t f)) openFrame _
 
 pub ended-saved : (s : Setup) (d : Asid) (m : Machine) (i : ℕ) → getD ((ended s d m) .saved) i zeroRegisters
     ≡ cond (isIn d (activityOf (m .tables) (record { 0 = i }))) zeroRegisters (getD (m .saved) i zeroRegisters)
 unfolding ended
 ended-saved s d m i =
     getD-mapFrom (λ k r. cond (isIn d (activityOf (m .tables) (record { 0 = k }))) zeroRegisters r) zeroRegisters
-    (λ k. same (isIn d (activityOf (m .tables) (record { 0 = k })))) (m .saved) i
-  where
-    same : (b : Bool) → cond b zeroRegisters zeroRegisters ≡ zeroRegisters
-    same true = refl
-    same false = refl
+    (λ k. cond-same (isIn d (activityOf (m .tables) (record { 0 = k }))) zeroRegisters) (m .saved) i
 
 module _ (s : Setup) (d : Asid) (t : Tables) (hd : d .0 < s .domains) (long : s .domains * s .pages ≤ length (t .pages)) where
   fits : d .0 * s .pages + length (replicate (s .pages) publicPage) ≤ length (t .pages)

@@ -5,10 +5,11 @@ use mathlib.Core.List.{List, [], _∷_}
 use Prim.Native.Nat.{ℕ, _+_, _≤_, _<_}
 use native.Mathlib.Decide.{ℕ-discrete}
 use native.Mathlib.Omega.{arith}
-use lib.ListN.{length}
+use lib.ListN.{getD, length}
 use lib.Dec.{T, eqb→eq}
-use Rattle.rules.specs.Records.{Given, Machine, placeOf, namesOf, isClearIn}
+use Rattle.rules.specs.Records.{emptyDomain, lifeOf, Given, Machine, placeOf, namesOf, isClearIn}
 use Rattle.rules.specs.Sealing.{takes, sealedTables, sealPage, sealAt, sealNamed, seal, sealAll, takesAt, takesNamed, needed}
+use Rattle.rules.specs.declared.DomainRecord.{DomainRecord}
 use Rattle.rules.specs.declared.Setup.{Setup}
 use Rattle.rules.specs.declared.Tables.{Tables}
 use Rattle.rules.specs.declared.Asid.{Asid}
@@ -45,6 +46,21 @@ seal-either g f m accepted hf P none one = named (namesOf (m .tables) f) refl
     named (Page d v) e =
         let c = accepted .looks .agrees .clear f d v hf e in
         placed d v e (record { domain = c .0; page = c .1 }) (placeOf (g .setup) (m .tables) d v) refl (c .2)
+
+-- what sealing a frame can come to, whatever it names
+pub seal-cases : (g : Given) (f : Gppn) (m : Machine) (P : Machine → Type 0) → P m
+    → ((d : Asid) (v : Gvpn) (w : Wear) → P (sealPage g f d v w m)) → P (seal g f m)
+unfolding seal sealNamed sealAt
+seal-cases g f m P same one = named (namesOf (m .tables) f)
+  where
+    placed : (d : Asid) (v : Gvpn) (p : Place) → P (sealAt g f d v p m)
+    placed d v Public = same
+    placed d v (Clear h w) = one d v w
+    placed d v (Sealed k) = same
+
+    named : (n : Named) → P (sealNamed g f n m)
+    named Nothing = same
+    named (Page d v) = placed d v (placeOf (g .setup) (m .tables) d v)
 
 -- which of the two it is, told from the records
 pub seal-none : (g : Given) (f : Gppn) (m : Machine) → namesOf (m .tables) f ≡ Nothing → seal g f m ≡ m
@@ -185,20 +201,13 @@ pub record Apart (m n : Machine) : Type 0 where
   pub saved : n .saved ≡ m .saved
 
 pub seal-apart : (g : Given) (f : Gppn) (m : Machine) → Apart m (seal g f m)
-unfolding seal sealNamed sealAt sealPage sealedTables
-seal-apart g f m = named (namesOf (m .tables) f)
-  where
-    same : Apart m m
-    same = record { domains = refl; contexts = refl; saved = refl }
+unfolding sealPage sealedTables
+seal-apart g f m =
+    seal-cases g f m (Apart m) (record { domains = refl; contexts = refl; saved = refl })
+    (λ d v w. record { domains = refl; contexts = refl; saved = refl })
 
-    placed : (d : Asid) (v : Gvpn) (p : Place) → Apart m (sealAt g f d v p m)
-    placed d v Public = same
-    placed d v (Clear h w) = record { domains = refl; contexts = refl; saved = refl }
-    placed d v (Sealed k) = same
-
-    named : (n : Named) → Apart m (sealNamed g f n m)
-    named Nothing = same
-    named (Page d v) = placed d v (placeOf (g .setup) (m .tables) d v)
+pub seal-life : (g : Given) (f : Gppn) (m : Machine) (d : Asid) → lifeOf ((seal g f m) .tables) d ≡ lifeOf (m .tables) d
+seal-life g f m d = ap (λ (l : List DomainRecord). (getD l (d .0) emptyDomain) .life) ((seal-apart g f m) .domains)
 
 pub sealAll-apart : (g : Given) (fs : List Gppn) (m : Machine) → Apart m (sealAll g fs m)
 unfolding sealAll
