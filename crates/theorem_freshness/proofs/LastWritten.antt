@@ -19,14 +19,14 @@ use Rattle.rules.specs.declared.Span.{Span}
 use Rattle.rules.specs.declared.Event.the-variants.{Read}
 use Rattle.rules.proofs.Tests.{each}
 use Rattle.rules.proofs.Granting.{Unrefused}
+use Rattle.theorem_reached.proofs.DoneOrRefused.{answered-0, outset-quiet}
 use Rattle.theorem_reached.proofs.FramesAndSlots.{Within}
 use Rattle.theorem_reached.proofs.OwnPages.{read-runs, read-own}
-use Rattle.theorem_reached.proofs.DoneOrRefused.{outset-quiet}
 use Rattle.theorem_freshness.specs.Past.{Past, contextBy, pageBy}
 use Rattle.theorem_freshness.proofs.PageContents.{contents, quiet-contents}
 use Rattle.theorem_freshness.proofs.ToldContexts.{running-home}
 use Rattle.theorem_freshness.proofs.ToldPages.{contents-whole}
-use Rattle.theorem_freshness.proofs.PastIsTrue.{Known, granted-passed}
+use Rattle.theorem_freshness.proofs.PastIsTrue.{Known}
 use Rattle.theorem_freshness.proofs.ReadAndResume.{read-gives}
 
 -- a span of whole bytes
@@ -46,7 +46,7 @@ module _ (g : Given) (m : Machine) (h : List Past) (known : Known g m h) (c : Ct
   d = domainOf (m .tables) c
 
   p : Unrefused g (outset m) (Read c v x) (length new) (length buffer)
-  p = granted-passed g (Read c v x) new buffer m ok
+  p = answered-0 g (Read c v x) new buffer m ok
 
   read-home : (contextBy h c) .home ≡ domainOf (m .tables) c
   unfolding outset

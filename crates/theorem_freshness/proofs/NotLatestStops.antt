@@ -10,7 +10,7 @@ use lib.Dec.{eqb-refl}
 use Rattle.rules.specs.Records.{Given, Machine, lifeOf, placeOf, domainOf, frameBytes}
 use Rattle.rules.specs.Sealing.{Effect, failed, andThen, signature, bringIn}
 use Rattle.rules.specs.Events.{ownFrame, does}
-use Rattle.rules.specs.Answers.{refusal, performed, perform, outset, stepFrom, step}
+use Rattle.rules.specs.Answers.{refusal, performed, perform, outset, step}
 use Rattle.rules.specs.declared.Asid.{Asid}
 use Rattle.rules.specs.declared.Gvpn.{Gvpn}
 use Rattle.rules.specs.declared.Gppn.{Gppn}
@@ -18,26 +18,19 @@ use Rattle.rules.specs.declared.Ctc.{Ctc}
 use Rattle.rules.specs.declared.Span.{Span}
 use Rattle.rules.specs.declared.Life.the-variants.{Stopped}
 use Rattle.rules.specs.declared.Place.the-variants.{Sealed}
-use Rattle.rules.specs.declared.Event.{Event}
 use Rattle.rules.specs.declared.Event.the-variants.{Read, Write}
 use Rattle.rules.proofs.Changes.{life-same}
 use Rattle.rules.proofs.Facts.{Accepted}
 use Rattle.rules.proofs.Granting.{Unrefused, unrefused}
+use Rattle.theorem_reached.proofs.DoneOrRefused.{step-at, outset-quiet}
 use Rattle.theorem_reached.proofs.FramesAndSlots.{Within}
 use Rattle.theorem_reached.proofs.SealFrames.{sealAll-accepted}
 use Rattle.theorem_reached.proofs.PageFates.{Quiet, and-then, sealAll-quiet}
 use Rattle.theorem_reached.proofs.BringIn.{brings-failed}
 use Rattle.theorem_reached.proofs.OwnPages.{read-own, write-own}
 use Rattle.theorem_reached.proofs.Counts.{seals-fit}
-use Rattle.theorem_reached.proofs.DoneOrRefused.{outset-quiet}
 use Rattle.theorem_freshness.specs.Stale.{Touch, reading, writing, touch, touched, Stops, Distinct}
 use Rattle.theorem_freshness.proofs.OlderSignatures.{Since, quiet-since, bears-new}
-
--- an event that is refused by no check is performed
-step-performed : (g : Given) (e : Event) (new buffer : List ℕ) (m : Machine) → refusal g (outset m) e (length new) (length buffer) ≡ 0
-    → step g e new buffer m ≡ performed (perform g e new (outset m)) buffer
-unfolding step stepFrom
-step-performed g e new buffer m q = rw q
 
 brings-stop : (g : Given) (f : Gppn) (d : Asid) (v : Gvpn) (q : Machine) → Accepted g q → d .0 < g .setup .domains → (k : ℕ)
     → placeOf (g .setup) (q .tables) d v ≡ Sealed k → frameBytes (g .setup) f q ≢ signature g k → (next : Machine → Effect)
@@ -82,7 +75,7 @@ module _ (g : Given) (m : Machine) (w : Touch) (c : Ctc) (v : Gvpn) (x : Span) (
     pub touch-stops : frameBytes (g .setup) (ownFrame (g .setup) (m .tables) c v) (touched g m (touch w c v x)) ≢ signature g k
         → Stops (domainOf (m .tables) c) (step g (touch w c v x) new buffer m)
     unfolding performed perform does outset
-    touch-stops apart = rw (step-performed g (touch w c v x) new buffer m ok) (at w place apart touched-accepted (touch-within .domain))
+    touch-stops apart = rw (step-at g (touch w c v x) new buffer m 0 ok) (at w place apart touched-accepted (touch-within .domain))
       where
         at : (w : Touch) → placeOf (g .setup) ((touched g m (touch w c v x)) .tables) d v ≡ Sealed k
             → frameBytes (g .setup) (ownFrame (g .setup) (m .tables) c v) (touched g m (touch w c v x)) ≢ signature g k

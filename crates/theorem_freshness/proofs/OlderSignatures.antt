@@ -28,13 +28,12 @@ use Rattle.rules.specs.declared.Place.{Place}
 use Rattle.rules.specs.declared.Place.the-variants.{Public, Clear, Sealed}
 use Rattle.rules.specs.declared.Event.the-variants.{Write}
 use Rattle.rules.proofs.Facts.{Accepted}
+use Rattle.theorem_reached.proofs.DoneOrRefused.{answered-0, step-counted, step-fate}
 use Rattle.theorem_reached.proofs.FramesAndSlots.{Within}
 use Rattle.theorem_reached.proofs.PageFates.{Quiet, is-same, is-sealed, is-unveiled, and-then, Act, kept, put, Fate, is-kept, is-zeroed}
 use Rattle.theorem_reached.proofs.PageFates.{is-dropped, is-put, sameNumber, quiet-public, is-public, actOf}
 use Rattle.theorem_reached.proofs.OwnPages.{write-own}
-use Rattle.theorem_reached.proofs.DoneOrRefused.{step-used, step-fate}
 use Rattle.theorem_freshness.specs.Stale.{bears}
-use Rattle.theorem_freshness.proofs.PastIsTrue.{granted-passed}
 
 -- the signature that the page bears, if it bears one, is among those unused at u
 abbrev pub BearsNew : ℕ → Place → Type 0
@@ -96,7 +95,7 @@ unfolding after
 after-since g d v hd u [] m h = h
 after-since g d v hd u (a ∷ asks) m h =
     after-since g d v hd u asks _
-    (fate-since (g .setup) d v u m _ _ ((step-used g (a .event) (a .new) (a .buffer) m) .0) (step-fate g (a .event) (a .new) (a .buffer) m d v hd) h)
+    (fate-since (g .setup) d v u m _ _ ((step-counted g (a .event) (a .new) (a .buffer) m) .kept) (step-fate g (a .event) (a .new) (a .buffer) m d v hd) h)
 
 -- a granted write
 module _ (g : Given) (c : Ctc) (v : Gvpn) (x : Span) (new buffer : List ℕ) (m : Machine) (ok : (step g (Write c v x) new buffer m) .number ≡ 0) where
@@ -108,7 +107,7 @@ module _ (g : Given) (c : Ctc) (v : Gvpn) (x : Span) (new buffer : List ℕ) (m 
 
   pub write-within : Within (g .setup) (domainOf (m .tables) c) v
   unfolding outset
-  write-within = (write-own g (outset m) c v (length new) (length buffer) x (granted-passed g (Write c v x) new buffer m ok)) .within
+  write-within = (write-own g (outset m) c v (length new) (length buffer) x (answered-0 g (Write c v x) new buffer m ok)) .within
 
   pub write-anew : Since (g .setup) d v (n .tables .used) n
   unfolding actOf ownPlace sameNumber
@@ -125,7 +124,7 @@ pub after-used : (g : Given) (asks : List Ask) (m : Machine) → m .tables .used
 unfolding after
 after-used g [] m = omega arith
 after-used g (a ∷ asks) m =
-    omega (arith, (step-used g (a .event) (a .new) (a .buffer) m) .0, after-used g asks ((step g (a .event) (a .new) (a .buffer) m) .machine))
+    omega (arith, (step-counted g (a .event) (a .new) (a .buffer) m) .kept, after-used g asks ((step g (a .event) (a .new) (a .buffer) m) .machine))
 
 -- a signature that a page bears is used
 bears-used : (s : Setup) (t : Tables) → Agreed s t → (d : Asid) (v : Gvpn) → Within s d v → (j : ℕ) (p : Place) → placeOf s t d v ≡ p → T (bears j p)
@@ -152,7 +151,7 @@ module _ (g : Given) (m : Machine) (accepted : Accepted g m) (between later : Li
       let anew = write-anew g c v x new buffer then-machine ok in
       let low = bears-used (g .setup) (m .tables) (accepted .looks .agrees) d v hd j (placeOf (g .setup) (m .tables) d v) refl bore in
       let up : j + 1 ≤ (step g (Write c v x) new buffer then-machine) .machine .tables .used =
-      omega (arith, after-used g between m, (step-used g (Write c v x) new buffer then-machine) .0) in
+      omega (arith, after-used g between m, (step-counted g (Write c v x) new buffer then-machine) .kept) in
       after-since g d v hd (j + 1) later _ (weaker (g .setup) d v (j + 1) _ _ up anew)
 
 pub older-below : (s : Setup) (d : Asid) (v : Gvpn) (j k : ℕ) (m : Machine) → Since s d v (j + 1) m → T (bears k (placeOf s (m .tables) d v)) → j < k

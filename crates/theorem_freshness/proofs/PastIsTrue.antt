@@ -8,7 +8,7 @@ use lib.Dec.{eqb}
 use borrow.Author.Tests.{eqb-true}
 use Rattle.rules.specs.Sizes.{maxContexts}
 use Rattle.rules.specs.Records.{Given, Machine, freeContext, activityOf, isPublic}
-use Rattle.rules.specs.Answers.{performed, refused, outset, step, start}
+use Rattle.rules.specs.Answers.{outset, step, start}
 use Rattle.rules.specs.Runs.{Ask, after}
 use Rattle.rules.specs.declared.State.{State}
 use Rattle.rules.specs.declared.Asid.{Asid}
@@ -18,10 +18,9 @@ use Rattle.rules.specs.declared.Activity.the-variants.{Free}
 use Rattle.rules.specs.declared.Place.{Place}
 use Rattle.rules.specs.declared.Event.{Event}
 use Rattle.rules.proofs.Lists.{getD-fresh}
-use Rattle.rules.proofs.Granting.{Unrefused}
+use Rattle.theorem_reached.proofs.DoneOrRefused.{answered-0, outset-quiet, step-fate}
 use Rattle.theorem_reached.proofs.FramesAndSlots.{Within}
 use Rattle.theorem_reached.proofs.PageFates.{kept, Fate, actOf}
-use Rattle.theorem_reached.proofs.DoneOrRefused.{step-either, outset-quiet, step-fate}
 use Rattle.theorem_reached.proofs.Start.{start-state}
 use Rattle.theorem_reached.proofs.EveryRun.{start-public}
 use Rattle.theorem_freshness.specs.Past.{Past, pastFrom, unheard, contextBy, pageAfter, pageBy}
@@ -34,13 +33,6 @@ pub record Known (g : Given) (m : Machine) (h : List Past) : Type 0 where
   pub contexts : (c : Ctc) → KnownContext m c (contextBy h c)
   pub pages : (d : Asid) (v : Gvpn) → Within (g .setup) d v → KnownPage (g .setup) d v m (pageBy h d v)
 
--- an event that is granted has passed all checks
-pub granted-passed : (g : Given) (e : Event) (new buffer : List ℕ) (m : Machine) → (step g e new buffer m) .number ≡ 0
-    → Unrefused g (outset m) e (length new) (length buffer)
-unfolding performed refused
-granted-passed g e new buffer m =
-    step-either g e new buffer m (λ o. o .number ≡ 0 → Unrefused g (outset m) e (length new) (length buffer)) (λ p _. p) (λ n _ ne q. absurd (ne q))
-
 module _ (g : Given) (e : Event) (new buffer : List ℕ) (m : Machine) (h : List Past) (known : Known g m h) where
   abbrev n : Machine
   n = (step g e new buffer m) .machine
@@ -50,7 +42,7 @@ module _ (g : Given) (e : Event) (new buffer : List ℕ) (m : Machine) (h : List
       → KnownPage (g .setup) d v n (cond b (pageAfter e new (contextBy h) d v (pageBy h d v)) (pageBy h d v))
   unfolding outset
   page-known d v hd true q fate =
-      let p = granted-passed g e new buffer m (eqb-true _ _ q) in
+      let p = answered-0 g e new buffer m (eqb-true _ _ q) in
       let k = known .pages d v hd in
       fate-known (g .setup) d v m n (pageBy h d v) (pageAfter e new (contextBy h) d v (pageBy h d v)) k
       (λ private. sym (ap length (quiet-contents (g .setup) d v m (outset m) (outset-quiet g e new buffer m d v))) ∙ contents-whole g (outset m) (p .accepted) d v hd private) (actOf (g .setup) (m .tables) e new d v) fate

@@ -31,6 +31,15 @@ use Rattle.theorem_reached.proofs.SealPage.{Stays, frames-apart, clear-
 use Rattle.theorem_reached.proofs.MakeClear.{unfilled, Enters, enter-accepted, enter-holds, enter-stays}
 use Rattle.theorem_reached.proofs.PageFates.{is-same, kept, zeroed, dropped, Fate, is-kept, is-zeroed, is-dropped, sameNumber}
 
+-- what uncloaking leaves, told from the page's place
+unfoldable pub uncloakedAt : Setup → Asid → Gvpn → Place → Machine → Machine
+uncloakedAt s d v p m = onTables (withPlace s d v Public) (fillSlot s d v (zeros (s .size)) (zeroIfClear s p m))
+
+pub uncloaked-at : (s : Setup) (d : Asid) (v : Gvpn) (p : Place) (m : Machine) → placeOf s (m .tables) d v ≡ p
+    → uncloaked s d v m ≡ uncloakedAt s d v p m
+unfolding uncloaked uncloakedAt
+uncloaked-at s d v p m e = rw e
+
 module _ (g : Given) (m : Machine) (accepted : Accepted g m) where
   abbrev s : Setup
   s = g .setup
@@ -73,21 +82,18 @@ module _ (g : Given) (m : Machine) (accepted : Accepted g m) where
         rw q
         (part-other (s .size) (pageNumber s d v) (zeros (s .size)) (m .store) (length-zeros (s .size)) (slot-fits s d v m hd (accepted .looks .store)) (pageNumber s e w) ne)
 
-    after : Place → Machine
-    after p = onTables (withPlace s d v Public) (fillSlot s d v (zeros (s .size)) (zeroIfClear s p m))
-
     zeroed-pages : (p : Place) → (zeroIfClear s p m) .tables .pages ≡ m .tables .pages
     unfolding zeroIfClear
     zeroed-pages Public = refl
     zeroed-pages (Clear f w) = refl
     zeroed-pages (Sealed k) = refl
 
-    uncloak-accepted-at : (p : Place) → placeOf s (m .tables) d v ≡ p → isPublic p ≡ false → Accepted g (after p)
-    unfolding after zeroIfClear placeSound namesSound
+    uncloak-accepted-at : (p : Place) → placeOf s (m .tables) d v ≡ p → isPublic p ≡ false → Accepted g (uncloakedAt s d v p m)
+    unfolding uncloakedAt zeroIfClear placeSound namesSound
     uncloak-accepted-at Public e q = absurd (true≢false q)
     uncloak-accepted-at (Clear f w) e q =
         let n = accepted .looks .agrees .named d v f w (hd .domain) (hd .page) e in
-        accepted-kept g m (after (Clear f w)) accepted (length-withPart (s .size) (f .0) _ (m .frames))
+        accepted-kept g m (uncloakedAt s d v (Clear f w) m) accepted (length-withPart (s .size) (f .0) _ (m .frames))
         (length-withPart (s .size) (pageNumber s d v) (zeros (s .size)) (m .store))
         (moved-sound s (stateOf m) (accepted .looks .sizes) (accepted .looks .sound) d v (hd .domain) (hd .page) f (n .0) lives (λ h c. clear-in f h w _ e c)
         (λ x y r.
@@ -97,12 +103,12 @@ module _ (g : Given) (m : Machine) (accepted : Accepted g m) where
         rw (px, py))
         (m .tables .used) (omega arith) (accepted .looks .sound .used) Public Nothing tt tt)
     uncloak-accepted-at (Sealed k) e q =
-        accepted-kept g m (after (Sealed k)) accepted refl (length-withPart (s .size) (pageNumber s d v) (zeros (s .size)) (m .store))
+        accepted-kept g m (uncloakedAt s d v (Sealed k) m) accepted refl (length-withPart (s .size) (pageNumber s d v) (zeros (s .size)) (m .store))
         (place-replaced s (stateOf m) (accepted .looks .sizes) (accepted .looks .sound) d v (hd .domain) (hd .page) Public tt lives (λ h c. absurd (rw e at c)))
 
     uncloak-stays-at : (p : Place) → placeOf s (m .tables) d v ≡ p → (e : Asid) (w : Gvpn) → Within s e w → pageNumber s e w ≢ pageNumber s d v
-        → Stays s e w m (after p)
-    unfolding after zeroIfClear
+        → Stays s e w m (uncloakedAt s d v p m)
+    unfolding uncloakedAt zeroIfClear
     uncloak-stays-at Public q e w he ne =
         record { place = place-other s (m .tables) d v _ e w ne; frame = λ f z c. refl; slot = dropped-store m refl e w ne; used = omega arith }
     uncloak-stays-at (Clear f y) q e w he ne =
@@ -121,7 +127,7 @@ module _ (g : Given) (m : Machine) (accepted : Accepted g m) where
         record { place = place-other s (m .tables) d v _ e w ne; frame = λ f z c. refl; slot = dropped-store m refl e w ne; used = omega arith }
 
     pub uncloak-accepted : isPublic (placeOf s (m .tables) d v) ≡ false → Accepted g (uncloaked s d v m)
-    unfolding uncloaked after
+    unfolding uncloaked uncloakedAt
     uncloak-accepted q = uncloak-accepted-at (placeOf s (m .tables) d v) refl q
 
     uncloak-place : placeOf s ((uncloaked s d v m) .tables) d v ≡ Public
@@ -132,7 +138,7 @@ module _ (g : Given) (m : Machine) (accepted : Accepted g m) where
         (rw (zeroed-pages p) (number-long s (stateOf m) (accepted .looks .sizes) (accepted .looks .sound) d v (hd .domain) (hd .page))) Public
 
     pub uncloak-fate : (e : Asid) (w : Gvpn) → Within s e w → (b : Bool) → sameNumber s d v e w ≡ b → Fate s e w m (uncloaked s d v m) (cond b dropped kept)
-    unfolding sameNumber uncloaked after
+    unfolding sameNumber uncloaked uncloakedAt
     uncloak-fate e w he true q =
         let k = number-one s d e v w (hd .page) (he .page) (eqb-true _ _ q) in
         rw (← k .0, ← k .1) (is-dropped uncloak-place)

@@ -28,6 +28,13 @@ use Rattle.theorem_reached.proofs.PageFates.{Quiet, is-same, kept, Fate
 use Rattle.theorem_reached.proofs.EventsPerformed.{performs}
 use Rattle.theorem_reached.proofs.Counts.{does-counts, sealAll-counts, seals-fit}
 
+-- no used signature is unused again; an event takes at most two signatures, and tells of at most two seals and one unveil
+pub record Counted (m : Machine) (o : Outcome) : Type 0 where
+  pub kept : m .tables .used ≤ o .machine .tables .used
+  pub few : o .machine .tables .used ≤ m .tables .used + maxSeals
+  pub seals : o .seals ≤ maxSeals
+  pub unveils : o .unveils ≤ 1
+
 module _ (g : Given) (e : Event) (new buffer : List ℕ) (m : Machine) where
   -- an event is done, having passed all checks, or refused by one
   pub step-either : (P : Outcome → Type 0)
@@ -42,6 +49,17 @@ module _ (g : Given) (e : Event) (new buffer : List ℕ) (m : Machine) where
       go : (b : Bool) → eqb r 0 ≡ b → P (cond b (performed (perform g e new (outset m)) buffer) (refused r (outset m) buffer))
       go true q = doing (unrefused g (outset m) e (length new) (length buffer) (eqb-true r 0 q))
       go false q = refusing r refl (eqb-false r 0 q)
+
+  -- which of the two it is, told from the number of the check that refuses it, or 0
+  pub step-at : (r : ℕ) → refusal g (outset m) e (length new) (length buffer) ≡ r
+      → step g e new buffer m ≡ cond (eqb r 0) (performed (perform g e new (outset m)) buffer) (refused r (outset m) buffer)
+  unfolding step stepFrom
+  step-at r q = rw q
+
+  -- an event that is answered 0 was refused by no check
+  pub answered-0 : (step g e new buffer m) .number ≡ 0 → Unrefused g (outset m) e (length new) (length buffer)
+  unfolding performed refused
+  answered-0 = step-either (λ o. o .number ≡ 0 → Unrefused g (outset m) e (length new) (length buffer)) (λ p _. p) (λ n _ ne q. absurd (ne q))
 
   pub outset-quiet : (d : Asid) (v : Gvpn) → Quiet (g .setup) d v m (outset m)
   unfolding outset
@@ -71,27 +89,19 @@ module _ (g : Given) (e : Event) (new buffer : List ℕ) (m : Machine) where
       (λ n q ne. rw (ne-eqb n 0 ne) (is-kept (outset-quiet d v)))
 
   -- what is counted
-  pub step-used : (m .tables .used ≤ (step g e new buffer m) .machine .tables .used)
-      × ((step g e new buffer m) .machine .tables .used ≤ m .tables .used + maxSeals)
+  pub step-counted : Counted m (step g e new buffer m)
   unfolding performed refused outset perform
-  step-used =
-      step-either (λ o. (m .tables .used ≤ o .machine .tables .used) × (o .machine .tables .used ≤ m .tables .used + maxSeals))
+  step-counted =
+      step-either (Counted m)
       (λ p.
       let fs = (row (g .setup) (m .tables) e) .seals in
-      let u = sealAll-used g fs (outset m) (p .accepted) (seals-fit g (outset m) (length buffer) e (length new) p) (p .granted .signatures) in
+      let fit = seals-fit g (outset m) (length buffer) e (length new) p in
+      let u = sealAll-used g fs (outset m) (p .accepted) fit (p .granted .signatures) in
+      let k = sealAll-counts g fs (outset m) in
       let c = does-counts g (m .tables) e new (sealAll g fs (outset m)) in
       let few = few-seals (g .setup) (m .tables) e in
-      omega arith)
-      (λ n _ _. omega arith)
+      record { kept = omega arith; few = omega arith; seals = omega arith; unveils = omega arith })
+      (λ n _ _. record { kept = omega arith; few = omega arith; seals = omega arith; unveils = omega arith })
 
-  pub step-counts : ((step g e new buffer m) .seals ≤ maxSeals) × ((step g e new buffer m) .unveils ≤ 1)
-  unfolding performed refused outset perform
-  step-counts =
-      step-either (λ o. (o .seals ≤ maxSeals) × (o .unveils ≤ 1))
-      (λ p.
-      let fs = (row (g .setup) (m .tables) e) .seals in
-      let u = sealAll-counts g fs (outset m) in
-      let c = does-counts g (m .tables) e new (sealAll g fs (outset m)) in
-      let few = few-seals (g .setup) (m .tables) e in
-      omega arith)
-      (λ n _ _. omega arith)
+  pub step-told : ((step g e new buffer m) .seals ≤ maxSeals) × ((step g e new buffer m) .unveils ≤ 1)
+  step-told = let c = step-counted in (c .seals, c .unveils)

@@ -13,7 +13,7 @@ use Rattle.rules.specs.Answers.{refused, startRefusal, start}
 use Rattle.rules.specs.Runs.{Ask}
 use Rattle.rules.proofs.Tests.{passes}
 use Rattle.theorem_reached.specs.States.{reached, answered, CleanAgree}
-use Rattle.theorem_reached.proofs.DoneOrRefused.{step-used, step-counts}
+use Rattle.theorem_reached.proofs.DoneOrRefused.{step-told, step-counted}
 use Rattle.theorem_reached.proofs.Answer10.{step-answer, step-tells}
 use Rattle.theorem_reached.proofs.Start.{start-accepted, step-refused}
 use Rattle.theorem_reached.proofs.EveryRun.{after-accepted, run-sound, run-used, run-refused, run-clean}
@@ -30,18 +30,18 @@ module _ (g : Given) (frames store : List ℕ) (asks : List Ask) where
   -- No event lets it fall.
   pub used-never-falls : (a : Ask)
       → (reached g frames store asks) .tables .used ≤ (answered g (reached g frames store asks) a) .machine .tables .used
-  used-never-falls a = (step-used g (a .event) (a .new) (a .buffer) (reached g frames store asks)) .0
+  used-never-falls a = (step-counted g (a .event) (a .new) (a .buffer) (reached g frames store asks)) .kept
 
   -- An event takes at most two signatures.
   pub two-signatures : (a : Ask)
       → (answered g (reached g frames store asks) a) .machine .tables .used ≤ (reached g frames store asks) .tables .used + maxSeals
-  two-signatures a = (step-used g (a .event) (a .new) (a .buffer) (reached g frames store asks)) .1
+  two-signatures a = (step-counted g (a .event) (a .new) (a .buffer) (reached g frames store asks)) .few
 
   -- It tells of at most two seals and one unveil.
   pub few-told : (a : Ask)
       → let o = answered g (reached g frames store asks) a in
       (o .seals ≤ maxSeals) × (o .unveils ≤ 1)
-  few-told a = step-counts g (a .event) (a .new) (a .buffer) (reached g frames store asks)
+  few-told a = step-told g (a .event) (a .new) (a .buffer) (reached g frames store asks)
 
   -- A page that is Clear and clean has the same bytes in its frame and in its slot.
   pub clean-agree : CleanAgree (g .setup) (reached g frames store asks)

@@ -25,9 +25,9 @@ use Rattle.rules.proofs.Parts.{length-zeros}
 use Rattle.rules.proofs.Changes.{names-other}
 use Rattle.rules.proofs.PageNumbers.{same-frame}
 use Rattle.rules.proofs.Facts.{Accepted}
+use Rattle.theorem_reached.proofs.CloakAndUncloak.{uncloakedAt, uncloaked-at, cloak-enters}
 use Rattle.theorem_reached.proofs.MakeClear.{unfilled}
 use Rattle.theorem_reached.proofs.FramesAndSlots.{Within}
-use Rattle.theorem_reached.proofs.CloakAndUncloak.{cloak-enters}
 use Rattle.theorem_secrecy.proofs.FreedFrames.{uncloak-zeroes}
 use Rattle.theorem_secrecy.proofs.Alike.{Alike, tables-alike, saved-alike, slot-alike, enter-alike}
 
@@ -51,18 +51,10 @@ module _ (g : Given) (m n : Machine) (gm : Accepted g m) (gn : Accepted g n) (a 
       (subst (λ (u : Tables). T (not (isEmpty (lifeOf u d)))) (a .tables) lives) (subst (λ (u : Tables). placeOf s u d v ≡ Public) (a .tables) place))
       (m .unveils) (n .unveils) (a .unveils)
 
-  -- uncloak, by the page's place
-  dropped : Asid → Gvpn → Place → Machine → Machine
-  dropped d v p k = onTables (withPlace s d v Public) (fillSlot s d v (zeros (s .size)) (zeroIfClear s p k))
-
-  dropped-at : (d : Asid) (v : Gvpn) (p : Place) (k : Machine) → placeOf s (k .tables) d v ≡ p → uncloaked s d v k ≡ dropped d v p k
-  unfolding uncloaked dropped
-  dropped-at d v p k e = rw e
-
   -- the frame that is let go is zero in both
   freed-alike : (d : Asid) (v : Gvpn) → Within s d v → (f : Gppn) (w : Wear) → placeOf s t d v ≡ Clear f w
-      → Alike s (dropped d v (Clear f w) m) (dropped d v (Clear f w) n)
-  unfolding dropped zeroIfClear
+      → Alike s (uncloakedAt s d v (Clear f w) m) (uncloakedAt s d v (Clear f w) n)
+  unfolding uncloakedAt zeroIfClear
   freed-alike d v hd f w e =
       record {
         tables = ap (λ (u : Tables). withPlace s d v Public (withNames f Nothing u)) (a .tables);
@@ -74,13 +66,13 @@ module _ (g : Given) (m n : Machine) (gm : Accepted g m) (gn : Accepted g n) (a 
       hf : f .0 < s .frames
       hf = (gm .looks .agrees .named d v f w (hd .domain) (hd .page) e) .0
 
-      zero : (k : Machine) → Accepted g k → placeOf s (k .tables) d v ≡ Clear f w → frameBytes s f (dropped d v (Clear f w) k) ≡ zeros (s .size)
+      zero : (k : Machine) → Accepted g k → placeOf s (k .tables) d v ≡ Clear f w → frameBytes s f (uncloakedAt s d v (Clear f w) k) ≡ zeros (s .size)
       zero k accepted place =
-          subst (λ (o : Machine). frameBytes s f o ≡ zeros (s .size)) (dropped-at d v (Clear f w) k place)
+          subst (λ (o : Machine). frameBytes s f o ≡ zeros (s .size)) (uncloaked-at s d v (Clear f w) k place)
           (uncloak-zeroes s f d v k hf (accepted .looks .frames) w place)
 
       at : (h : Gppn) → h .0 < s .frames → namesOf (withNames f Nothing t) h ≡ Nothing → Dec (h .0 ≡ f .0)
-          → frameBytes s h (dropped d v (Clear f w) m) ≡ frameBytes s h (dropped d v (Clear f w) n)
+          → frameBytes s h (uncloakedAt s d v (Clear f w) m) ≡ frameBytes s h (uncloakedAt s d v (Clear f w) n)
       at h hh q (yes p) =
           rw (same-frame h f p) (zero m gm e ∙ sym (zero n gn (subst (λ (u : Tables). placeOf s u d v ≡ Clear f w) (a .tables) e)))
       at h hh q (no ne) =
@@ -88,15 +80,15 @@ module _ (g : Given) (m n : Machine) (gm : Accepted g m) (gn : Accepted g n) (a 
           ∙ sym (unfilled s f hf n (gn .looks .frames) (zeros (s .size)) (length-zeros (s .size)) h ne)
 
   pub uncloaked-alike : (d : Asid) (v : Gvpn) → Within s d v → Alike s (uncloaked s d v m) (uncloaked s d v n)
-  unfolding dropped zeroIfClear
+  unfolding uncloakedAt zeroIfClear
   uncloaked-alike d v hd =
       let p = placeOf s t d v in
-      rw (dropped-at d v p m refl, dropped-at d v p n (sym (ap (λ (u : Tables). placeOf s u d v) (a .tables)))) (at p refl)
+      rw (uncloaked-at s d v p m refl, uncloaked-at s d v p n (sym (ap (λ (u : Tables). placeOf s u d v) (a .tables)))) (at p refl)
     where
       slots : Alike s (onTables (withPlace s d v Public) (fillSlot s d v (zeros (s .size)) m)) (onTables (withPlace s d v Public) (fillSlot s d v (zeros (s .size)) n))
       slots = tables-alike s _ _ (slot-alike s m n a d v (zeros (s .size)) (zeros (s .size))) (withPlace s d v Public) (λ u. refl)
 
-      at : (p : Place) → placeOf s t d v ≡ p → Alike s (dropped d v p m) (dropped d v p n)
+      at : (p : Place) → placeOf s t d v ≡ p → Alike s (uncloakedAt s d v p m) (uncloakedAt s d v p n)
       at Public e = slots
       at (Clear f w) e = freed-alike d v hd f w e
       at (Sealed k) e = slots

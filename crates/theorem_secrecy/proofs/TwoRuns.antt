@@ -10,7 +10,7 @@ use Rattle.rules.specs.Records.{Given, Machine}
 use Rattle.rules.specs.Sound.{acceptable}
 use Rattle.rules.specs.Sealing.{sealAll}
 use Rattle.rules.specs.Events.{row, does}
-use Rattle.rules.specs.Answers.{Outcome, refusal, refused, performed, perform, outset, stepFrom, step}
+use Rattle.rules.specs.Answers.{Outcome, refusal, refused, performed, perform, outset, step}
 use Rattle.rules.specs.Runs.{Ask}
 use Rattle.rules.specs.Example.{says}
 use Rattle.rules.specs.declared.Setup.{Setup}
@@ -21,7 +21,7 @@ use Rattle.rules.proofs.Tests.{passes}
 use Rattle.rules.proofs.Facts.{Accepted, outset-accepted}
 use Rattle.rules.proofs.Granting.{unrefused}
 use Rattle.theorem_reached.specs.States.{answered}
-use Rattle.theorem_reached.proofs.DoneOrRefused.{step-accepted}
+use Rattle.theorem_reached.proofs.DoneOrRefused.{step-at, step-accepted}
 use Rattle.theorem_secrecy.specs.Secrets.{SameButSecrets, DifferOnlyInSecrets, forApplication, told, SameToKernel, SameRuns}
 use Rattle.theorem_secrecy.specs.Secrets.{transcript}
 use Rattle.theorem_secrecy.proofs.Alike.{Alike}
@@ -37,11 +37,6 @@ refusal-alike : (g : Given) (m n : Machine) → Accepted g m → Accepted g n �
     → refusal g m e new room ≡ refusal g n e new room
 unfolding refusal
 refusal-alike g m n gm gn same e new room = rw (passes (acceptable g m) (gm .ok), passes (acceptable g n) (gn .ok), same)
-
-step-at : (g : Given) (e : Event) (new buffer : List ℕ) (m : Machine) (r : ℕ) → refusal g (outset m) e (length new) (length buffer) ≡ r
-    → step g e new buffer m ≡ cond (eqb r 0) (performed (perform g e new (outset m)) buffer) (refused r (outset m) buffer)
-unfolding step stepFrom
-step-at g e new buffer m r q = rw q
 
 -- two answers to an event asked of machines with tables t
 pub record SameAnswer (s : Setup) (t : Tables) (e : Event) (o p : Outcome) : Type 0 where
