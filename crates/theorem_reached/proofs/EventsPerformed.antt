@@ -1,15 +1,15 @@
 -- Each event that is not refused leaves an acceptable machine, and of each page's bytes what its act says. Assumes nothing.
-use mathlib.Core.Path.{_≡_, refl, ap, _∙_}
+use mathlib.Core.Path.{_≡_, refl}
 use mathlib.Core.List.{List, [], _∷_}
 use mathlib.Core.Bool.{Bool, true, false, not, cond}
 use Prim.Native.Nat.{ℕ, _<_}
 use native.Mathlib.Omega.{arith}
-use lib.ListN.{length, getD}
+use lib.ListN.{length}
 use lib.Dec.{T, eqb, eqb→eq, lt→ltb}
 use borrow.Author.Tests.{eqb-true, eqb-false, not-true}
 use Rattle.rules.specs.Bytes.{zeros, wordsIn}
 use Rattle.rules.specs.Sizes.{domainIn, contextIn}
-use Rattle.rules.specs.Records.{Given, Machine, emptyDomain, lifeOf, activityOf, placeOf, domainOf, isEmpty, isKeptIn, isPublic}
+use Rattle.rules.specs.Records.{Given, Machine, lifeOf, activityOf, placeOf, domainOf, isEmpty, isKeptIn, isPublic}
 use Rattle.rules.specs.Sound.{begun, activitySound, mappingSound}
 use Rattle.rules.specs.Sealing.{done, seal, sealAll}
 use Rattle.rules.specs.Events.{row, numbersIn, running, ownPlace, ownFrame, onRecords, onFrame, acting, onPage, touching, ended, spanBytes}
@@ -23,7 +23,6 @@ use Rattle.rules.specs.declared.Gvpn.{Gvpn}
 use Rattle.rules.specs.declared.Gppn.{Gppn}
 use Rattle.rules.specs.declared.Ctc.{Ctc}
 use Rattle.rules.specs.declared.Span.{Span}
-use Rattle.rules.specs.declared.DomainRecord.{DomainRecord}
 use Rattle.rules.specs.declared.TrapKind.{TrapKind}
 use Rattle.rules.specs.declared.Activity.{Activity}
 use Rattle.rules.specs.declared.Activity.the-variants.{Free, Running, Kept}
@@ -35,15 +34,15 @@ use Rattle.rules.proofs.PageNumbers.{same-domain}
 use Rattle.rules.proofs.Tests.{each, all, passes, domain-below, page-below, frame-below, context-below}
 use Rattle.rules.proofs.Facts.{Accepted}
 use Rattle.rules.proofs.Granting.{Unrefused}
+use Rattle.theorem_reached.proofs.OwnPages.{cloakable, home, uncloak-own, read-own, write-own}
 use Rattle.theorem_reached.proofs.FramesAndSlots.{Within}
-use Rattle.theorem_reached.proofs.SealFrames.{Fits, seal-accepted, sealAll-accepted, seal-apart, seal-names, room-first}
+use Rattle.theorem_reached.proofs.SealFrames.{Fits, seal-accepted, sealAll-accepted, seal-names, room-first}
 use Rattle.theorem_reached.proofs.PageFates.{is-same, and-then, kept, dropped, Fate, is-kept, is-dropped, sameNumber, seal-quiet}
-use Rattle.theorem_reached.proofs.PageFates.{sealAll-quiet, quiet-public, is-public, actOf, Did, after-quiet}
+use Rattle.theorem_reached.proofs.PageFates.{sealAll-quiet, actOf, Did, after-quiet}
 use Rattle.theorem_reached.proofs.EndOfDomain.{ended-accepted, ended-stays, ended-public}
 use Rattle.theorem_reached.proofs.ContextsAndMappings.{activity-accepted, turned-accepted, turned-stays, begun-accepted}
 use Rattle.theorem_reached.proofs.ContextsAndMappings.{mapping-accepted, mapping-stays}
 use Rattle.theorem_reached.proofs.CloakAndUncloak.{cloak-accepted, cloak-fate, uncloak-accepted, uncloak-fate}
-use Rattle.theorem_reached.proofs.OwnPages.{home, cloak-own, uncloak-own, read-own, write-own}
 use Rattle.theorem_reached.proofs.ReadAndWrite.{did-kept, did-read, did-write, writes}
 use Rattle.theorem_reached.proofs.BringIn.{span-accepted, span-stays}
 
@@ -179,26 +178,16 @@ module _ (g : Given) (m : Machine) (new : List ℕ) (space : ℕ) where
   cloak : (c : Ctc) (v : Gvpn) → Performs (Cloak c v)
   unfolding perform row onPage sealAll does done actOf numbersIn ownPlace
   cloak c v p =
-      let own = cloak-own g m c v (length new) space p in
-      let r = each _ (p .granted .condition) in
+      let k = cloakable g m c v (length new) space p in
       let d = domainOf t c in
       let f = ownFrame s t c v in
-      let hd = own .within in
-      let hf = own .frame (p .granted .mapped) in
-      let room = room-first g f [] m (p .granted .signatures) in
       let q = seal g f m in
-      let accepted = seal-accepted g f m (p .accepted) hf room in
-      let none = seal-names g f m (p .accepted) hf room in
-      let quiet = seal-quiet g d v hd f m (p .accepted) hf room in
-      let shared = is-public _ (quiet-public s d v m q quiet ∙ passes _ (r .1 .0)) in
-      let same : lifeOf (q .tables) d ≡ lifeOf t d = ap (λ (l : List DomainRecord). (getD l (d .0) emptyDomain) .life) ((seal-apart g f m) .domains) in
-      let lives : T (not (isEmpty (lifeOf (q .tables) d))) = rw same (own .lives) in
       record {
-        accepted = cloak-accepted g q accepted f hf none d v hd lives shared;
+        accepted = cloak-accepted g q (k .sealed) f (k .frame) (k .none) d v (k .within) (k .lives) (k .shared);
         fate =
             λ e w he.
-            after-quiet s e w m q _ _ (seal-quiet g e w he f m (p .accepted) hf room)
-            (cloak-fate g q accepted f hf none d v hd lives shared e w he (sameNumber s d v e w) refl);
+            after-quiet s e w m q _ _ (seal-quiet g e w he f m (p .accepted) (k .frame) (k .room))
+            (cloak-fate g q (k .sealed) f (k .frame) (k .none) d v (k .within) (k .lives) (k .shared) e w he (sameNumber s d v e w) refl);
       }
 
   read : (c : Ctc) (v : Gvpn) (x : Span) → Performs (Read c v x)

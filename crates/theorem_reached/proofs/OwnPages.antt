@@ -1,19 +1,23 @@
 -- What is known of the context that acts and of its own page: its domain is begun, and its frame is within the setup. Assumes nothing.
-use mathlib.Core.Path.{_≡_, refl}
+use mathlib.Core.Path.{_∙_, _≡_, refl}
 use mathlib.Core.List.{[], _∷_}
 use mathlib.Core.Bool.{not}
 use Prim.Native.Nat.{ℕ, _<_}
 use lib.Dec.{T}
+use Rattle.rules.specs.Records.{placeOf, namesOf, Given, Machine, lifeOf, activityOf, mappingOf, domainOf, domainWhere, frameWhere, isEmpty}
+use Rattle.rules.specs.Records.{isRunning, isUnmapped}
+use Rattle.rules.specs.Sealing.{seal}
+use Rattle.rules.specs.Events.{ownPlace, running, ownFrame, ownMapped, row, numbersIn, acting, onPage, touching}
 use Rattle.rules.specs.Sizes.{pageIn, contextIn}
-use Rattle.rules.specs.Records.{Given, Machine, lifeOf, activityOf, mappingOf, domainOf, domainWhere, frameWhere, isEmpty, isRunning}
-use Rattle.rules.specs.Records.{isUnmapped}
-use Rattle.rules.specs.Events.{running, ownFrame, ownMapped, row, numbersIn, acting, onPage, touching}
 use Rattle.rules.specs.Asked.{Agreed}
 use Rattle.rules.specs.Bytes.{allOf}
+use Rattle.rules.specs.declared.Place.the-variants.{Public}
+use Rattle.rules.specs.declared.Named.the-variants.{Nothing}
 use Rattle.rules.specs.declared.Setup.{Setup}
 use Rattle.rules.specs.declared.Tables.{Tables}
 use Rattle.rules.specs.declared.Asid.{Asid}
 use Rattle.rules.specs.declared.Gvpn.{Gvpn}
+use Rattle.rules.specs.declared.Gppn.{Gppn}
 use Rattle.rules.specs.declared.Ctc.{Ctc}
 use Rattle.rules.specs.declared.Activity.{Activity}
 use Rattle.rules.specs.declared.Activity.the-variants.{Free, Running, Kept}
@@ -21,8 +25,11 @@ use Rattle.rules.specs.declared.Mapping.{Mapping}
 use Rattle.rules.specs.declared.Mapping.the-variants.{Unmapped, Mapped}
 use Rattle.rules.specs.declared.Event.the-variants.{Cloak, Uncloak, Read, Write}
 use Rattle.rules.specs.declared.Span.{Span}
-use Rattle.rules.proofs.Tests.{page-below, context-below, each}
+use Rattle.rules.proofs.Facts.{Accepted}
+use Rattle.rules.proofs.Tests.{passes, page-below, context-below, each}
 use Rattle.rules.proofs.Granting.{Unrefused}
+use Rattle.theorem_reached.proofs.SealFrames.{Room, room-first, seal-accepted, seal-names, seal-life}
+use Rattle.theorem_reached.proofs.PageFates.{seal-quiet, quiet-public, is-public}
 use Rattle.theorem_reached.proofs.FramesAndSlots.{Within}
 
 -- a running context's domain and own pages
@@ -91,3 +98,43 @@ module _ (g : Given) (m : Machine) (c : Ctc) (v : Gvpn) (new space : ℕ) where
   pub write-runs : (x : Span) → Unrefused g m (Write c v x) new space → T (running (m .tables) c)
   unfolding row touching onPage
   write-runs x p = (each _ (p .granted .condition)) .0
+
+-- a page that is cloaked, once what is Clear in its frame is sealed
+module _ (g : Given) (m : Machine) (c : Ctc) (v : Gvpn) where
+  abbrev s : Setup
+  s = g .setup
+
+  abbrev d : Asid
+  d = domainOf (m .tables) c
+
+  abbrev f : Gppn
+  f = ownFrame s (m .tables) c v
+
+  abbrev q : Machine
+  q = seal g f m
+
+  pub record Cloakable : Type 0 where
+    pub within : Within s d v
+    pub frame : f .0 < s .frames
+    pub room : Room g f m
+    pub sealed : Accepted g q
+    pub none : namesOf (q .tables) f ≡ Nothing
+    pub lives : T (not (isEmpty (lifeOf (q .tables) d)))
+    pub shared : placeOf s (q .tables) d v ≡ Public
+
+  pub cloakable : (new space : ℕ) → Unrefused g m (Cloak c v) new space → Cloakable
+  unfolding row onPage ownPlace
+  cloakable new space p =
+      let own = cloak-own g m c v new space p in
+      let hf = own .frame (p .granted .mapped) in
+      let room = room-first g f [] m (p .granted .signatures) in
+      let quiet = seal-quiet g d v (own .within) f m (p .accepted) hf room in
+      record {
+        within = own .within;
+        frame = hf;
+        room = room;
+        sealed = seal-accepted g f m (p .accepted) hf room;
+        none = seal-names g f m (p .accepted) hf room;
+        lives = rw (seal-life g f m d) (own .lives);
+        shared = is-public _ (quiet-public s d v m q quiet ∙ passes _ ((each _ (p .granted .condition)) .1 .0));
+      }

@@ -6,11 +6,13 @@ use mathlib.Core.Bool.{Bool, true, false, cond}
 use Prim.Native.Nat.{ℕ, _+_, _≤_, _<_}
 use native.Mathlib.Decide.{ℕ-discrete}
 use lib.ListN.{length, getD}
-use Rattle.rules.specs.Bytes.{zeros}
-use Rattle.rules.specs.Records.{Given, Machine, openFrame, namesOf, namesIn, withNames, withPlace, onTables, withSaved, frameBytes}
+use Rattle.rules.specs.Records.{placeOf, Given, Machine, openFrame, namesOf, namesIn, withNames, withPlace, onTables, withSaved, frameBytes}
 use Rattle.rules.specs.Records.{fillFrame, fillSlot}
+use Rattle.rules.specs.Bytes.{zeros}
 use Rattle.rules.specs.Sealing.{needed, signature, sealedWith, takes, sealedTables, sealPage, seal, sealAll}
 use Rattle.rules.specs.Events.{endedTables, ended}
+use Rattle.rules.specs.declared.Place.{Place}
+use Rattle.rules.specs.declared.Named.{Named}
 use Rattle.rules.specs.declared.Setup.{Setup}
 use Rattle.rules.specs.declared.Tables.{Tables}
 use Rattle.rules.specs.declared.Asid.{Asid}
@@ -37,6 +39,20 @@ pub record Alike (s : Setup) (m n : Machine) : Type 0 where
   -- the frames that name no page hold the same bytes
   pub bare : (f : Gppn) → f .0 < s .frames → namesOf (m .tables) f ≡ Nothing → frameBytes s f m ≡ frameBytes s f n
 
+-- what one machine's tables say, the other's say too
+module _ (s : Setup) (m n : Machine) (a : Alike s m n) where
+  pub names-alike : (f : Gppn) {x : Named} → namesOf (m .tables) f ≡ x → namesOf (n .tables) f ≡ x
+  names-alike f {x} = subst (λ (t : Tables). namesOf t f ≡ x) (a .tables)
+
+  pub place-alike : (d : Asid) (v : Gvpn) {x : Place} → placeOf s (m .tables) d v ≡ x → placeOf s (n .tables) d v ≡ x
+  place-alike d v {x} = subst (λ (t : Tables). placeOf s t d v ≡ x) (a .tables)
+
+  holds-alike : {f : Gppn} {d : Asid} {v : Gvpn} {w : Wear} → Holds s (m .tables) f d v w → Holds s (n .tables) f d v w
+  holds-alike {f} {d} {v} {w} = subst (λ (t : Tables). Holds s t f d v w) (a .tables)
+
+pub enough-alike : (g : Given) (m n : Machine) → Alike (g .setup) m n → (fs : List Gppn) → Enough g fs m → Enough g fs n
+enough-alike g m n a fs = subst (λ (t : Tables). t .used + needed (g .setup) t fs ≤ g .setup .signatures) (a .tables)
+
 -- sealing: the frame holds the same signature in both
 module _ (g : Given) (f : Gppn) (m n : Machine) (gm : Accepted g m) (gn : Accepted g n) (a : Alike (g .setup) m n) where
   sealPage-alike : (d : Asid) (v : Gvpn) (w : Wear) → Holds (g .setup) (m .tables) f d v w → m .tables .used + takes w ≤ g .setup .signatures
@@ -51,7 +67,7 @@ module _ (g : Given) (f : Gppn) (m n : Machine) (gm : Accepted g m) (gn : Accept
       }
     where
       holds′ : Holds (g .setup) (n .tables) f d v w
-      holds′ = subst (λ (t : Tables). Holds (g .setup) t f d v w) (a .tables) holds
+      holds′ = holds-alike (g .setup) m n a holds
 
       room′ : n .tables .used + takes w ≤ g .setup .signatures
       room′ = subst (λ (t : Tables). t .used + takes w ≤ g .setup .signatures) (a .tables) room
@@ -69,9 +85,9 @@ module _ (g : Given) (f : Gppn) (m n : Machine) (gm : Accepted g m) (gn : Accept
   pub seal-alike : f .0 < g .setup .frames → Room g f m → Alike (g .setup) (seal g f m) (seal g f n)
   seal-alike hf room =
       seal-either g f m gm hf (λ k. Alike (g .setup) k (seal g f n))
-      (λ none. rw (seal-none g f n (sym (ap (λ (t : Tables). namesOf t f) (a .tables)) ∙ none)) a)
+      (λ none. rw (seal-none g f n (names-alike (g .setup) m n a f none)) a)
       (λ d v w holds.
-      rw (seal-held g f n d v w (subst (λ (t : Tables). Holds (g .setup) t f d v w) (a .tables) holds))
+      rw (seal-held g f n d v w (holds-alike (g .setup) m n a holds))
       (sealPage-alike d v w holds (room-held g f m d v w room holds)))
 
 pub sealAll-alike : (g : Given) (fs : List Gppn) (m n : Machine) → Accepted g m → Accepted g n → Fits (g .setup) fs → Enough g fs m → Alike (g .setup) m n
@@ -79,7 +95,7 @@ pub sealAll-alike : (g : Given) (fs : List Gppn) (m n : Machine) → Accepted g 
 unfolding sealAll
 sealAll-alike g [] m n gm gn fit enough a = a
 sealAll-alike g (f ∷ fs) m n gm gn fit enough a =
-    let enough′ : Enough g (f ∷ fs) n = subst (λ (t : Tables). t .used + needed (g .setup) t (f ∷ fs) ≤ g .setup .signatures) (a .tables) enough in
+    let enough′ = enough-alike g m n a (f ∷ fs) enough in
     sealAll-alike g fs (seal g f m) (seal g f n) (first-accepted g f fs m gm fit enough) (first-accepted g f fs n gn fit enough′) (fit .1)
     (room-rest g f fs m gm fit enough) (seal-alike g f m n gm gn a (fit .0) (room-first g f fs m enough))
 

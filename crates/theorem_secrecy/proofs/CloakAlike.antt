@@ -28,8 +28,8 @@ use Rattle.rules.proofs.Facts.{Accepted}
 use Rattle.theorem_reached.proofs.CloakAndUncloak.{uncloakedAt, uncloaked-at, cloak-enters}
 use Rattle.theorem_reached.proofs.MakeClear.{unfilled}
 use Rattle.theorem_reached.proofs.FramesAndSlots.{Within}
+use Rattle.theorem_secrecy.proofs.Alike.{names-alike, place-alike, Alike, tables-alike, saved-alike, slot-alike, enter-alike}
 use Rattle.theorem_secrecy.proofs.FreedFrames.{uncloak-zeroes}
-use Rattle.theorem_secrecy.proofs.Alike.{Alike, tables-alike, saved-alike, slot-alike, enter-alike}
 
 module _ (g : Given) (m n : Machine) (gm : Accepted g m) (gn : Accepted g n) (a : Alike (g .setup) m n) where
   abbrev s : Setup
@@ -47,8 +47,8 @@ module _ (g : Given) (m n : Machine) (gm : Accepted g m) (gn : Accepted g n) (a 
   unfolding cloaked
   cloaked-alike f hf none d v hd lives place =
       enter-alike g m n a f d v Dirty _ _ (cloak-enters g m gm f hf none d v hd lives place)
-      (cloak-enters g n gn f hf (subst (λ (u : Tables). namesOf u f ≡ Nothing) (a .tables) none) d v hd
-      (subst (λ (u : Tables). T (not (isEmpty (lifeOf u d)))) (a .tables) lives) (subst (λ (u : Tables). placeOf s u d v ≡ Public) (a .tables) place))
+      (cloak-enters g n gn f hf (names-alike s m n a f none) d v hd
+      (subst (λ (u : Tables). T (not (isEmpty (lifeOf u d)))) (a .tables) lives) (place-alike s m n a d v place))
       (m .unveils) (n .unveils) (a .unveils)
 
   -- the frame that is let go is zero in both
@@ -74,7 +74,7 @@ module _ (g : Given) (m n : Machine) (gm : Accepted g m) (gn : Accepted g n) (a 
       at : (h : Gppn) → h .0 < s .frames → namesOf (withNames f Nothing t) h ≡ Nothing → Dec (h .0 ≡ f .0)
           → frameBytes s h (uncloakedAt s d v (Clear f w) m) ≡ frameBytes s h (uncloakedAt s d v (Clear f w) n)
       at h hh q (yes p) =
-          rw (same-frame h f p) (zero m gm e ∙ sym (zero n gn (subst (λ (u : Tables). placeOf s u d v ≡ Clear f w) (a .tables) e)))
+          rw (same-frame h f p) (zero m gm e ∙ sym (zero n gn (place-alike s m n a d v e)))
       at h hh q (no ne) =
           unfilled s f hf m (gm .looks .frames) (zeros (s .size)) (length-zeros (s .size)) h ne ∙ a .bare h hh (sym (names-other t f Nothing h ne) ∙ q)
           ∙ sym (unfilled s f hf n (gn .looks .frames) (zeros (s .size)) (length-zeros (s .size)) h ne)

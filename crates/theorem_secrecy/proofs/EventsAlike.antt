@@ -1,12 +1,12 @@
 -- Each event that is done, in two machines that are alike: it is done alike, and what the kernel is given agrees. Assumes nothing.
-use mathlib.Core.Path.{_≡_, refl, ap, _∙_, subst}
+use mathlib.Core.Path.{_≡_, refl, ap}
 use mathlib.Core.List.{List, [], _∷_}
 use mathlib.Core.Bool.{true≢false}
-use Prim.Native.Nat.{ℕ, _+_, _≤_, _<_}
-use lib.ListN.{length, getD}
+use Prim.Native.Nat.{ℕ, _<_}
+use lib.ListN.{length}
 use Rattle.rules.specs.Bytes.{zeros, wordsIn, bytesOf}
-use Rattle.rules.specs.Records.{Given, Machine, emptyDomain, lifeOf, namesOf, domainOf, withLife, withActivity, withMapping}
-use Rattle.rules.specs.Sealing.{seal, sealAll, needed}
+use Rattle.rules.specs.Records.{Given, Machine, namesOf, domainOf, withLife, withActivity, withMapping}
+use Rattle.rules.specs.Sealing.{seal, sealAll}
 use Rattle.rules.specs.Events.{row, numbersIn, ownPlace, ownFrame, onRecords, acting, onPage, touching, does}
 use Rattle.rules.specs.Answers.{perform}
 use Rattle.rules.specs.declared.Setup.{Setup}
@@ -16,7 +16,6 @@ use Rattle.rules.specs.declared.Gvpn.{Gvpn}
 use Rattle.rules.specs.declared.Gppn.{Gppn}
 use Rattle.rules.specs.declared.Ctc.{Ctc}
 use Rattle.rules.specs.declared.Span.{Span}
-use Rattle.rules.specs.declared.DomainRecord.{DomainRecord}
 use Rattle.rules.specs.declared.Life.the-variants.{Live}
 use Rattle.rules.specs.declared.TrapKind.{TrapKind}
 use Rattle.rules.specs.declared.Activity.the-variants.{Free, Running, Kept}
@@ -25,15 +24,14 @@ use Rattle.rules.specs.declared.Named.the-variants.{Nothing}
 use Rattle.rules.specs.declared.Event.{Event}
 use Rattle.rules.specs.declared.Event.the-variants.{Begin, End, Map, Unmap, KernelRead, KernelWrite, Resume, Spawn, Leave, Cloak, Uncloak}
 use Rattle.rules.specs.declared.Event.the-variants.{Read, Write, Trap}
-use Rattle.rules.proofs.Tests.{each, passes, domain-below, frame-below}
+use Rattle.rules.proofs.Tests.{domain-below, frame-below}
 use Rattle.rules.proofs.Facts.{Accepted}
 use Rattle.rules.proofs.Granting.{Unrefused}
-use Rattle.theorem_reached.proofs.SealFrames.{Enough, seal-accepted, sealAll-accepted, seal-apart, seal-names, room-first}
+use Rattle.theorem_reached.proofs.OwnPages.{cloakable, uncloak-own, read-own, write-own}
+use Rattle.theorem_reached.proofs.SealFrames.{Enough, seal-accepted, sealAll-accepted, seal-names, room-first}
 use Rattle.theorem_reached.proofs.FramesAndSlots.{read-seals, write-seals}
-use Rattle.theorem_reached.proofs.PageFates.{seal-quiet, quiet-public, is-public}
-use Rattle.theorem_reached.proofs.OwnPages.{cloak-own, uncloak-own, read-own, write-own}
 use Rattle.theorem_secrecy.specs.Secrets.{SameButSecrets, forApplication}
-use Rattle.theorem_secrecy.proofs.Alike.{Alike, seal-alike, sealAll-alike, tables-alike, ended-alike}
+use Rattle.theorem_secrecy.proofs.Alike.{enough-alike, Alike, seal-alike, sealAll-alike, tables-alike, ended-alike}
 use Rattle.theorem_secrecy.proofs.CloakAlike.{turned-alike, cloaked-alike, uncloaked-alike}
 use Rattle.theorem_secrecy.proofs.ShownRegisters.{shown-same}
 use Rattle.theorem_secrecy.proofs.ReadAndWriteAlike.{SameEffect, both-done, span-alike, span-given, read-alike, write-alike}
@@ -69,9 +67,6 @@ module _ (g : Given) (m n : Machine) (gn : Accepted g n) (a : Alike (g .setup) m
 
   -- a frame that the kernel reads or writes names no page once it is sealed
   module _ (f : Gppn) (hf : f .0 < s .frames) (accepted : Accepted g m) (enough : Enough g (f ∷ []) m) where
-    enough′ : Enough g (f ∷ []) n
-    enough′ = subst (λ (u : Tables). u .used + needed s u (f ∷ []) ≤ s .signatures) (a .tables) enough
-
     kernel-alike : Alike s (sealAll g (f ∷ []) m) (sealAll g (f ∷ []) n)
     kernel-alike = sealAll-alike g (f ∷ []) m n accepted gn (hf, tt) enough a
 
@@ -79,7 +74,7 @@ module _ (g : Given) (m n : Machine) (gn : Accepted g n) (a : Alike (g .setup) m
     kernel-accepted = sealAll-accepted g (f ∷ []) m accepted (hf, tt) enough
 
     kernel-accepted′ : Accepted g (sealAll g (f ∷ []) n)
-    kernel-accepted′ = sealAll-accepted g (f ∷ []) n gn (hf, tt) enough′
+    kernel-accepted′ = sealAll-accepted g (f ∷ []) n gn (hf, tt) (enough-alike g m n a (f ∷ []) enough)
 
     kernel-bare : namesOf ((sealAll g (f ∷ []) m) .tables) f ≡ Nothing
     unfolding sealAll
@@ -127,20 +122,13 @@ module _ (g : Given) (m n : Machine) (gn : Accepted g n) (a : Alike (g .setup) m
   cloak : (c : Ctc) (v : Gvpn) → DoneAlike (Cloak c v)
   unfolding perform row onPage sealAll does numbersIn ownPlace
   cloak c v p same =
-      let own = cloak-own g m c v (length x) space p in
-      let r = each _ (p .granted .condition) in
+      let k = cloakable g m c v (length x) space p in
       let d = domainOf t c in
       let f = ownFrame s t c v in
-      let hd = own .within in
-      let hf = own .frame (p .granted .mapped) in
-      let room = room-first g f [] m (p .granted .signatures) in
-      let room′ = room-first g f [] n (enough′ f hf (p .accepted) (p .granted .signatures)) in
-      let q = seal g f m in
-      let place = is-public _ (quiet-public s d v m q (seal-quiet g d v hd f m (p .accepted) hf room) ∙ passes _ (r .1 .0)) in
-      let life : lifeOf (q .tables) d ≡ lifeOf t d = ap (λ (l : List DomainRecord). (getD l (d .0) emptyDomain) .life) ((seal-apart g f m) .domains) in
+      let room′ = room-first g f [] n (enough-alike g m n a (f ∷ []) (p .granted .signatures)) in
       both-done s _ _ _ [] []
-      (cloaked-alike g q (seal g f n) (seal-accepted g f m (p .accepted) hf room) (seal-accepted g f n gn hf room′) (seal-alike g f m n (p .accepted) gn a hf room) f hf
-      (seal-names g f m (p .accepted) hf room) d v hd (rw life (own .lives)) place)
+      (cloaked-alike g (seal g f m) (seal g f n) (k .sealed) (seal-accepted g f n gn (k .frame) room′)
+      (seal-alike g f m n (p .accepted) gn a (k .frame) (k .room)) f (k .frame) (k .none) d v (k .within) (k .lives) (k .shared))
       (λ _. refl)
 
   uncloak : (c : Ctc) (v : Gvpn) → DoneAlike (Uncloak c v)

@@ -1,16 +1,15 @@
 -- Reading and writing a page in two machines that are alike: the page is brought in in both or in neither, and a frame that names
 -- a page is looked into by no one else. Assumes nothing.
-use mathlib.Core.Path.{_≡_, refl, sym, ap, ap₂, _∙_, subst}
+use mathlib.Core.Path.{_≡_, refl, sym, ap, ap₂, _∙_}
 use mathlib.Core.List.{List, []}
 use mathlib.Core.Bool.{Bool, true, false, not, true≢false}
-use Prim.Native.Nat.{ℕ, _+_, _≤_, _<_}
+use Prim.Native.Nat.{ℕ, _+_, _<_}
 use lib.ListN.{take, drop}
 use Rattle.rules.specs.Bytes.{overlay}
 use Rattle.rules.specs.Records.{Given, Machine, placeOf, namesOf, isPublic, withLife, withPlace, onTables}
-use Rattle.rules.specs.Sealing.{needed, Effect, done, failed, andThen, unveiledTables, unveiled, bringIn, sealAll, sealedFirst}
+use Rattle.rules.specs.Sealing.{Effect, done, failed, andThen, unveiledTables, unveiled, bringIn, sealAll, sealedFirst}
 use Rattle.rules.specs.Events.{spanBytes, storeSpan, written, markedDirty}
 use Rattle.rules.specs.declared.Setup.{Setup}
-use Rattle.rules.specs.declared.Tables.{Tables}
 use Rattle.rules.specs.declared.Span.{Span}
 use Rattle.rules.specs.declared.Asid.{Asid}
 use Rattle.rules.specs.declared.Gvpn.{Gvpn}
@@ -30,7 +29,8 @@ use Rattle.theorem_reached.proofs.TouchCases.{first-fits, touch-case}
 use Rattle.theorem_reached.proofs.PageFates.{sealAll-quiet, quiet-public}
 use Rattle.theorem_reached.proofs.BringIn.{bring-in-either, brings-public, brings-clear, brings-opened, brings-failed, sealed-enters}
 use Rattle.theorem_reached.proofs.BringIn.{unveiled-accepted, opened-holds, laid-whole}
-use Rattle.theorem_secrecy.proofs.Alike.{Alike, sealAll-alike, tables-alike, fill-alike, enter-alike}
+use Rattle.theorem_secrecy.proofs.Alike.{names-alike, place-alike, enough-alike, Alike, sealAll-alike, tables-alike, fill-alike}
+use Rattle.theorem_secrecy.proofs.Alike.{enter-alike}
 
 -- two effects that are alike, with answer bytes that agree where the kernel is given them
 pub record SameEffect (s : Setup) (alone : Bool) (e f : Effect) : Type 0 where
@@ -72,7 +72,7 @@ module _ (g : Given) (m n : Machine) (gm : Accepted g m) (gn : Accepted g n) (a 
   fits = first-fits g m gm f hf d v hd
 
   enough′ : Enough g fs n
-  enough′ = subst (λ (t : Tables). t .used + needed s t fs ≤ s .signatures) (a .tables) enough
+  enough′ = enough-alike g m n a fs enough
 
   abbrev q : Machine
   q = sealAll g fs m
@@ -97,8 +97,8 @@ module _ (g : Given) (m n : Machine) (gm : Accepted g m) (gn : Accepted g n) (a 
   unfolding unveiled unveiledTables
   opened-alike k place none =
       enter-alike g q r q-alike f d v (Clean k) _ _ (sealed-enters g q q-accepted f hf d v hd k place none)
-      (sealed-enters g r r-accepted f hf d v hd k (subst (λ (t : Tables). placeOf s t d v ≡ Sealed k) (q-alike .tables) place)
-      (subst (λ (t : Tables). namesOf t f ≡ Nothing) (q-alike .tables) none))
+      (sealed-enters g r r-accepted f hf d v hd k (place-alike s q r q-alike d v place)
+      (names-alike s q r q-alike f none))
       (q .unveils + 1) (r .unveils + 1) (ap (λ (j : ℕ). j + 1) (q-alike .unveils))
 
   stopped-alike : Alike s (onTables (withLife d Stopped) q) (onTables (withLife d Stopped) r)
@@ -119,14 +119,14 @@ module _ (g : Given) (m n : Machine) (gm : Accepted g m) (gn : Accepted g n) (a 
       (λ k place none same.
       rw (brings-opened g f d v r k (over place) (sym (q-alike .bare f hf none) ∙ same))
       (there (unveiled g f d v k q) (unveiled g f d v k r) (Clean k) (unveiled-accepted g q q-accepted f hf d v hd k place none)
-      (unveiled-accepted g r r-accepted f hf d v hd k (over place) (subst (λ (t : Tables). namesOf t f ≡ Nothing) (q-alike .tables) none))
+      (unveiled-accepted g r r-accepted f hf d v hd k (over place) (names-alike s q r q-alike f none))
       (opened-alike k place none) (private (ap isPublic place)) (opened-holds g q q-accepted f hf d v hd k place none)))
       (λ k place none apart.
       rw (brings-failed g f d v r k (over place) (λ same. apart (q-alike .bare f hf none ∙ same)))
       (record { number = refl; machine = stopped-alike; bytes = λ _. refl }))
     where
       over : {p : Place} → placeOf s (q .tables) d v ≡ p → placeOf s (r .tables) d v ≡ p
-      over {p} e = subst (λ (t : Tables). placeOf s t d v ≡ p) (q-alike .tables) e
+      over {p} e = place-alike s q r q-alike d v e
 
       private : isPublic (placeOf s (q .tables) d v) ≡ false → isPublic (placeOf s (m .tables) d v) ≡ false
       private e = sym public-as ∙ e
