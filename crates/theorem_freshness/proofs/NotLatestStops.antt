@@ -1,5 +1,6 @@
 -- A page that is touched while its frame holds anything but its latest signature: the answer is 8 and its domain is Stopped. An
 -- older signature of the page is such a thing where the signatures differ. Assumes nothing.
+use mathlib.Core.Bool.{true}
 use mathlib.Core.Path.{_≡_, refl, sym, _∙_}
 use mathlib.Core.Logic.{_≢_}
 use mathlib.Core.List.{List}
@@ -7,10 +8,11 @@ use Prim.Native.Nat.{ℕ, _+_, _≤_, _<_}
 use native.Mathlib.Omega.{arith}
 use lib.ListN.{length}
 use lib.Dec.{eqb-refl}
+use Rattle.rules.specs.Answers.{Outcome, startRefusal, refusal, performed, perform, outset, step}
+use Rattle.rules.specs.Runs.{Ask, after}
 use Rattle.rules.specs.Records.{Given, Machine, lifeOf, placeOf, domainOf, frameBytes}
 use Rattle.rules.specs.Sealing.{Effect, failed, andThen, signature, bringIn}
 use Rattle.rules.specs.Events.{ownFrame, does}
-use Rattle.rules.specs.Answers.{refusal, performed, perform, outset, step}
 use Rattle.rules.specs.declared.Asid.{Asid}
 use Rattle.rules.specs.declared.Gvpn.{Gvpn}
 use Rattle.rules.specs.declared.Gppn.{Gppn}
@@ -22,6 +24,7 @@ use Rattle.rules.specs.declared.Event.the-variants.{Read, Write}
 use Rattle.rules.proofs.Changes.{life-same}
 use Rattle.rules.proofs.Facts.{Accepted}
 use Rattle.rules.proofs.Granting.{Unrefused, unrefused}
+use Rattle.theorem_reached.specs.States.{reached}
 use Rattle.theorem_reached.proofs.DoneOrRefused.{step-at, outset-quiet}
 use Rattle.theorem_reached.proofs.FramesAndSlots.{Within}
 use Rattle.theorem_reached.proofs.SealFrames.{sealAll-accepted}
@@ -29,8 +32,8 @@ use Rattle.theorem_reached.proofs.PageFates.{Quiet, and-then, sealAll-quiet}
 use Rattle.theorem_reached.proofs.BringIn.{brings-failed}
 use Rattle.theorem_reached.proofs.OwnPages.{read-own, write-own}
 use Rattle.theorem_reached.proofs.Counts.{seals-fit}
-use Rattle.theorem_freshness.specs.Stale.{Touch, reading, writing, touch, touched, Stops, Distinct}
-use Rattle.theorem_freshness.proofs.OlderSignatures.{Since, quiet-since, bears-new}
+use Rattle.theorem_freshness.specs.Stale.{bears, Touch, reading, writing, touch, touched, Stops, Distinct}
+use Rattle.theorem_freshness.proofs.OlderSignatures.{older-since, Since, quiet-since, bears-new}
 
 brings-stop : (g : Given) (f : Gppn) (d : Asid) (v : Gvpn) (q : Machine) → Accepted g q → d .0 < g .setup .domains → (k : ℕ)
     → placeOf (g .setup) (q .tables) d v ≡ Sealed k → frameBytes (g .setup) f q ≢ signature g k → (next : Machine → Effect)
@@ -95,3 +98,25 @@ module _ (g : Given) (m : Machine) (w : Touch) (c : Ctc) (v : Gvpn) (x : Span) (
         let low : k < q .tables .used = accepted .looks .agrees .sealed d v k (touch-within .domain) (touch-within .page) place in
         touch-stops
         (λ same. distinct j k (omega (arith, accepted .looks .agrees .used)) (omega (arith, accepted .looks .agrees .used)) (omega arith) (sym held ∙ same))
+
+-- After a write, a signature that the page bore before it.
+module _ (g : Given) (frames store : List ℕ) (started : startRefusal g frames store ≡ 0) (earlier between later : List Ask)
+    (c : Ctc) (v : Gvpn) (x : Span) (new buffer : List ℕ) (j : ℕ) where
+  abbrev before : Machine
+  before = after g (reached g frames store earlier) between
+
+  abbrev o : Outcome
+  o = step g (Write c v x) new buffer before
+
+  abbrev now : Machine
+  now = after g (o .machine) later
+
+  pub older-stops : bears j (placeOf (g .setup) ((reached g frames store earlier) .tables) (domainOf (before .tables) c) v) ≡ true
+      → o .number ≡ 0 → Distinct g → (w : Touch) (u : Ctc) → domainOf (now .tables) u ≡ domainOf (before .tables) c
+      → (y : Span) (new′ buffer′ : List ℕ) (k : ℕ) → refusal g (outset now) (touch w u v y) (length new′) (length buffer′) ≡ 0
+      → placeOf (g .setup) ((touched g now (touch w u v y)) .tables) (domainOf (now .tables) u) v ≡ Sealed k
+      → frameBytes (g .setup) (ownFrame (g .setup) (now .tables) u v) (touched g now (touch w u v y)) ≡ signature g j
+      → Stops (domainOf (now .tables) u) (step g (touch w u v y) new′ buffer′ now)
+  older-stops bore wrote distinct w u same y new′ buffer′ k ok place held =
+      let since = older-since g frames store started earlier between later c v x new buffer j bore wrote in
+      touch-replayed g now w u v y new′ buffer′ ok k place distinct j (rw same since) held

@@ -8,11 +8,11 @@ use native.Mathlib.Omega.{arith}
 use lib.ListN.{length}
 use lib.Dec.{T, eqb→eq}
 use borrow.Author.Tests.{eq-eqb}
+use Rattle.rules.specs.Answers.{Outcome, startRefusal, outset, step}
 use Rattle.rules.specs.Sizes.{pageNumber}
 use Rattle.rules.specs.Records.{Given, Machine, placeOf, domainOf, isPublic}
 use Rattle.rules.specs.Sealing.{sealedWith}
 use Rattle.rules.specs.Events.{ownPlace}
-use Rattle.rules.specs.Answers.{outset, step}
 use Rattle.rules.specs.Runs.{Ask, after}
 use Rattle.rules.specs.Asked.{Agreed}
 use Rattle.rules.specs.declared.Setup.{Setup}
@@ -27,7 +27,9 @@ use Rattle.rules.specs.declared.Wear.the-variants.{Dirty, Clean}
 use Rattle.rules.specs.declared.Place.{Place}
 use Rattle.rules.specs.declared.Place.the-variants.{Public, Clear, Sealed}
 use Rattle.rules.specs.declared.Event.the-variants.{Write}
-use Rattle.rules.proofs.Facts.{Accepted}
+use Rattle.rules.proofs.Tests.{passed}
+use Rattle.theorem_reached.specs.States.{reached}
+use Rattle.theorem_reached.proofs.EveryRun.{run-accepted}
 use Rattle.theorem_reached.proofs.DoneOrRefused.{answered-0, step-counted, step-fate}
 use Rattle.theorem_reached.proofs.FramesAndSlots.{Within}
 use Rattle.theorem_reached.proofs.PageFates.{Quiet, is-same, is-sealed, is-unveiled, and-then, Act, kept, put, Fate, is-kept, is-zeroed}
@@ -134,25 +136,37 @@ bears-used s t agrees d v hd j (Clear f Dirty) e h = absurd h
 bears-used s t agrees d v hd j (Clear f (Clean k)) e h = omega (arith, eqb→eq k j h, agrees .worn d v f k (hd .domain) (hd .page) e)
 bears-used s t agrees d v hd j (Sealed k) e h = omega (arith, eqb→eq k j h, agrees .sealed d v k (hd .domain) (hd .page) e)
 
--- a page bore signature j; it was written, and more happened: what it bears since is among those unused at j
-module _ (g : Given) (m : Machine) (accepted : Accepted g m) (between later : List Ask) (c : Ctc) (v : Gvpn) (x : Span) (new buffer : List ℕ) where
-  abbrev then-machine : Machine
-  then-machine = after g m between
+-- After a granted start and the events `earlier` page v of context c's domain bears signature j; then, after the events `between`, the
+-- context is granted a write to it; and then come the events `later`. What the page bears then is among the signatures unused at j.
+module _ (g : Given) (frames store : List ℕ) (started : startRefusal g frames store ≡ 0) (earlier between later : List Ask)
+    (c : Ctc) (v : Gvpn) (x : Span) (new buffer : List ℕ) (j : ℕ) where
+  abbrev m : Machine
+  m = reached g frames store earlier
 
-  abbrev now-machine : Machine
-  now-machine = after g ((step g (Write c v x) new buffer then-machine) .machine) later
+  abbrev before : Machine
+  before = after g m between
 
-  pub older-since : (step g (Write c v x) new buffer then-machine) .number ≡ 0
-      → (j : ℕ) → T (bears j (placeOf (g .setup) (m .tables) (domainOf (then-machine .tables) c) v))
-      → Since (g .setup) (domainOf (then-machine .tables) c) v (j + 1) now-machine
-  older-since ok j bore =
-      let d = domainOf (then-machine .tables) c in
-      let hd = write-within g c v x new buffer then-machine ok in
-      let anew = write-anew g c v x new buffer then-machine ok in
-      let low = bears-used (g .setup) (m .tables) (accepted .looks .agrees) d v hd j (placeOf (g .setup) (m .tables) d v) refl bore in
-      let up : j + 1 ≤ (step g (Write c v x) new buffer then-machine) .machine .tables .used =
-      omega (arith, after-used g between m, (step-counted g (Write c v x) new buffer then-machine) .kept) in
-      after-since g d v hd (j + 1) later _ (weaker (g .setup) d v (j + 1) _ _ up anew)
+  abbrev home : Asid
+  home = domainOf (before .tables) c
 
-pub older-below : (s : Setup) (d : Asid) (v : Gvpn) (j k : ℕ) (m : Machine) → Since s d v (j + 1) m → T (bears k (placeOf s (m .tables) d v)) → j < k
-older-below s d v j k m since h = omega (arith, bears-new (j + 1) k (placeOf s (m .tables) d v) (since .place) h)
+  abbrev o : Outcome
+  o = step g (Write c v x) new buffer before
+
+  abbrev now : Machine
+  now = after g (o .machine) later
+
+  pub older-since : bears j (placeOf (g .setup) (m .tables) home v) ≡ true → o .number ≡ 0 → Since (g .setup) home v (j + 1) now
+  older-since bore ok =
+      let agrees = (run-accepted g frames store earlier started) .looks .agrees in
+      let hd = write-within g c v x new buffer before ok in
+      let low = bears-used (g .setup) (m .tables) agrees home v hd j (placeOf (g .setup) (m .tables) home v) refl (passed _ bore) in
+      let more = (step-counted g (Write c v x) new buffer before) .kept in
+      let up : j + 1 ≤ o .machine .tables .used = omega (arith, after-used g between m) in
+      after-since g home v hd (j + 1) later _ (weaker (g .setup) home v (j + 1) _ _ up (write-anew g c v x new buffer before ok))
+
+  -- so it is a later one
+  pub older-below : bears j (placeOf (g .setup) (m .tables) home v) ≡ true → o .number ≡ 0 → (k : ℕ)
+      → bears k (placeOf (g .setup) (now .tables) home v) ≡ true → j < k
+  older-below bore ok k h =
+      let since = older-since bore ok in
+      omega (arith, bears-new (j + 1) k (placeOf (g .setup) (now .tables) home v) (since .place) (passed _ h))

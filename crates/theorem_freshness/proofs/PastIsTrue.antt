@@ -2,12 +2,13 @@
 use mathlib.Core.Path.{_≡_, refl, sym, ap, _∙_}
 use mathlib.Core.List.{List, [], _∷_}
 use mathlib.Core.Bool.{Bool, true, false, not, cond, true≢false}
-use Prim.Native.Nat.{ℕ}
+use Prim.Native.Nat.{_<_, ℕ}
 use lib.ListN.{length, getD}
 use lib.Dec.{eqb}
 use borrow.Author.Tests.{eqb-true}
+use Rattle.rules.specs.Records.{placeOf, domainOf, Given, Machine, freeContext, activityOf, isPublic}
+use Rattle.rules.specs.Events.{running}
 use Rattle.rules.specs.Sizes.{maxContexts}
-use Rattle.rules.specs.Records.{Given, Machine, freeContext, activityOf, isPublic}
 use Rattle.rules.specs.Answers.{outset, step, start}
 use Rattle.rules.specs.Runs.{Ask, after}
 use Rattle.rules.specs.declared.State.{State}
@@ -17,13 +18,15 @@ use Rattle.rules.specs.declared.Ctc.{Ctc}
 use Rattle.rules.specs.declared.Activity.the-variants.{Free}
 use Rattle.rules.specs.declared.Place.{Place}
 use Rattle.rules.specs.declared.Event.{Event}
+use Rattle.rules.proofs.Tests.{passed}
 use Rattle.rules.proofs.Lists.{getD-fresh}
+use Rattle.theorem_reached.specs.States.{reached}
 use Rattle.theorem_reached.proofs.DoneOrRefused.{answered-0, outset-quiet, step-fate}
 use Rattle.theorem_reached.proofs.FramesAndSlots.{Within}
 use Rattle.theorem_reached.proofs.PageFates.{kept, Fate, actOf}
 use Rattle.theorem_reached.proofs.Start.{start-state}
 use Rattle.theorem_reached.proofs.EveryRun.{start-public}
-use Rattle.theorem_freshness.specs.Past.{Past, pastFrom, unheard, contextBy, pageAfter, pageBy}
+use Rattle.theorem_freshness.specs.Past.{past, Past, pastFrom, unheard, contextBy, pageAfter, pageBy}
 use Rattle.theorem_freshness.proofs.PageContents.{quiet-contents}
 use Rattle.theorem_freshness.proofs.ToldContexts.{KnownContext, known-freed, running-home, step-knows}
 use Rattle.theorem_freshness.proofs.ToldPages.{KnownPage, contents-whole, fate-known, same-known}
@@ -81,3 +84,14 @@ run-known g frames store asks =
             bytes = λ p. absurd (true≢false (sym p));
           };
     })
+
+-- so the tables say the same of each page, whether it is private, and of each running context, its domain
+module _ (g : Given) (frames store : List ℕ) (asks : List Ask) where
+  pub run-private : (d : Asid) (v : Gvpn) → d .0 < g .setup .domains → v .0 < g .setup .pages
+      → (pageBy (past g frames store asks) d v) .private
+      ≡ not (isPublic (placeOf (g .setup) ((reached g frames store asks) .tables) d v))
+  run-private d v hd hv = ((run-known g frames store asks) .pages d v (record { domain = hd; page = hv })) .private
+
+  pub run-home : (c : Ctc) → running ((reached g frames store asks) .tables) c ≡ true
+      → (contextBy (past g frames store asks) c) .home ≡ domainOf ((reached g frames store asks) .tables) c
+  run-home c r = running-home (reached g frames store asks) c _ ((run-known g frames store asks) .contexts c) (passed _ r)

@@ -32,7 +32,7 @@ use Rattle.theorem_reached.proofs.PageFates.{Quiet, quiet-public}
 use Rattle.theorem_reached.proofs.TouchCases.{touch-case}
 use Rattle.theorem_reached.proofs.BringIn.{bring-in-either, opened-holds}
 use Rattle.theorem_reached.proofs.OwnPages.{read-own}
-use Rattle.theorem_reached.proofs.ReadAndWrite.{q-accepted, q-quiet, opened-quiet}
+use Rattle.theorem_reached.proofs.ReadAndWrite.{sealed-first-accepted, sealed-first-quiet, opened-quiet}
 use Rattle.theorem_reached.proofs.DoneOrRefused.{step-either, outset-quiet}
 use Rattle.theorem_freshness.specs.Past.{OfContext, resumedBy, resumedWith}
 use Rattle.theorem_freshness.proofs.PageContents.{contents, contents-clear, quiet-contents}
@@ -58,12 +58,12 @@ module _ (g : Given) (m : Machine) (accepted : Accepted g m) (f : Gppn) (hf : f 
   pub brought-in-read : given (andThen (bringIn g f d v q) (λ n. done n (spanBytes s f x n)))
   unfolding andThen done failed
   brought-in-read =
-      bring-in-either g q (q-accepted g m accepted f hf d v hd enough) f hf d v hd (touch-case g m accepted f hf d v hd enough)
+      bring-in-either g q (sealed-first-accepted g m accepted f hf d v hd enough) f hf d v hd (touch-case g m accepted f hf d v hd enough)
       (λ e. given (andThen e (λ n. done n (spanBytes s f x n))))
-      (λ place _. absurd (true≢false (sym (ap isPublic place) ∙ quiet-public s d v m q (q-quiet g m accepted f hf d v hd enough d v hd) ∙ private)))
-      (λ w holds. there q w holds (q-quiet g m accepted f hf d v hd enough d v hd))
+      (λ place _. absurd (true≢false (sym (ap isPublic place) ∙ quiet-public s d v m q (sealed-first-quiet g m accepted f hf d v hd enough d v hd) ∙ private)))
+      (λ w holds. there q w holds (sealed-first-quiet g m accepted f hf d v hd enough d v hd))
       (λ k place none _.
-      there (unveiled g f d v k q) (Clean k) (opened-holds g q (q-accepted g m accepted f hf d v hd enough) f hf d v hd k place none)
+      there (unveiled g f d v k q) (Clean k) (opened-holds g q (sealed-first-accepted g m accepted f hf d v hd enough) f hf d v hd k place none)
       (opened-quiet g m accepted f hf d v hd enough k place none d v hd))
       (λ _ _ _ _ e. absurd (suc-ne-zero 7 e))
 

@@ -27,14 +27,14 @@ use Rattle.rules.proofs.PageNumbers.{same-domain, same-context}
 use Rattle.rules.proofs.Granting.{Unrefused}
 use Rattle.theorem_reached.proofs.DoneOrRefused.{step-either}
 use Rattle.theorem_freshness.specs.Past.{OfContext, sameContext, contextAfter}
-use Rattle.theorem_freshness.proofs.ContextFates.{same, freed, runs, keeps, Turned, turnOf, performs-turns}
+use Rattle.theorem_freshness.proofs.ContextFates.{same, freed, runs, keeps, ContextFate, contextActOf, performs-on-context}
 
 pub record KnownContext (m : Machine) (c : Ctc) (x : OfContext) : Type 0 where
   pub home : T (not (isFree (activityOf (m .tables) c))) → x .home ≡ domainWhere (activityOf (m .tables) c)
   pub trap : (d : Asid) (k : TrapKind) → activityOf (m .tables) c ≡ Kept d k → (x .kind ≡ k) × (savedOf m c ≡ x .registers)
 
 module _ (m n : Machine) (c : Ctc) (x : OfContext) where
-  known-same : Turned same m n c → KnownContext m c x → KnownContext n c x
+  known-same : ContextFate same m n c → KnownContext m c x → KnownContext n c x
   known-same t h =
       record {
         home = λ f. subst (λ (a : Activity). T (not (isFree a)) → x .home ≡ domainWhere a) (sym (t .0)) (h .home) f;
@@ -86,33 +86,33 @@ module _ (g : Given) (m : Machine) (new : List ℕ) (space : ℕ) (before : Ctc 
   at-home u r = running-home m u (before u) (known u) r
 
   abbrev Knows : Event → Type 0
-  Knows e = Unrefused g m e (length new) space → (n : Machine) → Turned (turnOf t e new c) m n c → KnownContext n c (contextAfter e new before c)
+  Knows e = Unrefused g m e (length new) space → (n : Machine) → ContextFate (contextActOf t e new c) m n c → KnownContext n c (contextAfter e new before c)
 
-  let-be : (n : Machine) → Turned same m n c → KnownContext n c (before c)
+  let-be : (n : Machine) → ContextFate same m n c → KnownContext n c (before c)
   let-be n h = known-same m n c (before c) h (known c)
 
   begins : (d : Asid) (u : Ctc) → Knows (Begin d u)
-  unfolding turnOf contextAfter
+  unfolding contextActOf contextAfter
   begins d u p n h = at (sameContext u c) h
     where
-      at : (b : Bool) → Turned (cond b (runs d) same) m n c
+      at : (b : Bool) → ContextFate (cond b (runs d) same) m n c
           → KnownContext n c (cond b (record { home = d; kind = (before c) .kind; registers = (before c) .registers }) (before c))
       at true h = known-runs m n c _ d h refl
       at false h = let-be n h
 
   ends : (d : Asid) → Knows (End d)
-  unfolding turnOf contextAfter
+  unfolding contextActOf contextAfter
   ends d p n h = at (isIn d (activityOf t c)) h
     where
-      at : (b : Bool) → Turned (cond b freed same) m n c → KnownContext n c (before c)
+      at : (b : Bool) → ContextFate (cond b freed same) m n c → KnownContext n c (before c)
       at true h = known-freed m n c (before c) h
       at false h = let-be n h
 
   resumes : (d : Asid) (u : Ctc) → Knows (Resume d u)
-  unfolding turnOf contextAfter row onRecords
+  unfolding contextActOf contextAfter row onRecords
   resumes d u p n h = at (sameContext u c) refl h
     where
-      at : (b : Bool) → sameContext u c ≡ b → Turned (cond b (runs d) same) m n c → KnownContext n c (before c)
+      at : (b : Bool) → sameContext u c ≡ b → ContextFate (cond b (runs d) same) m n c → KnownContext n c (before c)
       at true q h =
           let k = kept-home d (activityOf t u) (p .granted .condition) in
           let e = same-context u c (eqb-true _ _ q) in
@@ -120,27 +120,27 @@ module _ (g : Given) (m : Machine) (new : List ℕ) (space : ℕ) (before : Ctc 
       at false q h = let-be n h
 
   spawns : (b u : Ctc) → Knows (Spawn b u)
-  unfolding turnOf contextAfter row acting
+  unfolding contextActOf contextAfter row acting
   spawns b u p n h = at (sameContext u c) h
     where
-      at : (z : Bool) → Turned (cond z (runs (domainOf t b)) same) m n c
+      at : (z : Bool) → ContextFate (cond z (runs (domainOf t b)) same) m n c
           → KnownContext n c (cond z (record { home = (before b) .home; kind = (before c) .kind; registers = (before c) .registers }) (before c))
       at true h = known-runs m n c _ (domainOf t b) h (at-home b ((each _ (p .granted .condition)) .0))
       at false h = let-be n h
 
   leaves : (u : Ctc) → Knows (Leave u)
-  unfolding turnOf contextAfter
+  unfolding contextActOf contextAfter
   leaves u p n h = at (sameContext u c) h
     where
-      at : (b : Bool) → Turned (cond b freed same) m n c → KnownContext n c (before c)
+      at : (b : Bool) → ContextFate (cond b freed same) m n c → KnownContext n c (before c)
       at true h = known-freed m n c (before c) h
       at false h = let-be n h
 
   traps : (u : Ctc) (k : TrapKind) (mask : ℕ) → Knows (Trap u k mask)
-  unfolding turnOf contextAfter row acting
+  unfolding contextActOf contextAfter row acting
   traps u k mask p n h = at (sameContext u c) refl h
     where
-      at : (b : Bool) → sameContext u c ≡ b → Turned (cond b (keeps (domainOf t u) k (wordsIn 8 new)) same) m n c
+      at : (b : Bool) → sameContext u c ≡ b → ContextFate (cond b (keeps (domainOf t u) k (wordsIn 8 new)) same) m n c
           → KnownContext n c (cond b (record { home = (before c) .home; kind = k; registers = wordsIn 8 new }) (before c))
       at true q h =
           let e = same-context u c (eqb-true _ _ q) in
@@ -149,7 +149,7 @@ module _ (g : Given) (m : Machine) (new : List ℕ) (space : ℕ) (before : Ctc 
       at false q h = let-be n h
 
   knows : (e : Event) → Knows e
-  unfolding turnOf contextAfter
+  unfolding contextActOf contextAfter
   knows (Begin d u) p n h = begins d u p n h
   knows (End d) p n h = ends d p n h
   knows (Map d v f) p n h = let-be n h
@@ -165,7 +165,7 @@ module _ (g : Given) (m : Machine) (new : List ℕ) (space : ℕ) (before : Ctc 
   knows (Write u v x) p n h = let-be n h
   knows (Trap u k mask) p n h = traps u k mask p n h
 
-outset-same : (m : Machine) (c : Ctc) → Turned same m (outset m) c
+outset-same : (m : Machine) (c : Ctc) → ContextFate same m (outset m) c
 unfolding outset
 outset-same m c = (refl, refl)
 
@@ -196,7 +196,7 @@ step-knows g e new buffer m before known c =
     step-either g e new buffer m (λ o. KnownContext (o .machine) c (cond (eqb (o .number) 0) (contextAfter e new before c) (before c)))
     (λ p.
     rw (touch-tells g ((outset m) .tables) e new (sealAll g ((row (g .setup) ((outset m) .tables) e) .seals) (outset m)) before c)
-    (knows g (outset m) new (length buffer) before known-outset c e p _ (performs-turns g (outset m) e new (length buffer) p c)))
+    (knows g (outset m) new (length buffer) before known-outset c e p _ (performs-on-context g (outset m) e new (length buffer) p c)))
     (λ n _ ne. rw (ne-eqb n 0 ne) (known-outset c))
   where
     known-outset : (c : Ctc) → KnownContext (outset m) c (before c)

@@ -17,16 +17,20 @@ use Rattle.rules.specs.declared.Place.the-variants.{Public}
 use Rattle.rules.proofs.Tests.{each}
 use Rattle.rules.proofs.Lists.{getD-fresh}
 use Rattle.rules.proofs.Facts.{Accepted}
-use Rattle.theorem_reached.specs.States.{CleanAgree}
+use Rattle.theorem_reached.specs.States.{answered, CleanAgree}
+use Rattle.theorem_reached.proofs.Start.{start-accepted, fresh-sound, start-state, step-refused}
 use Rattle.theorem_reached.proofs.FramesAndSlots.{Within}
 use Rattle.theorem_reached.proofs.PageFates.{CleanAt, fate-clean}
 use Rattle.theorem_reached.proofs.DoneOrRefused.{step-accepted, step-sound, step-fate}
-use Rattle.theorem_reached.proofs.Start.{fresh-sound, start-state, step-refused}
 
 pub after-accepted : (g : Given) (asks : List Ask) (m : Machine) → Accepted g m → Accepted g (after g m asks)
 unfolding after
 after-accepted g [] m accepted = accepted
 after-accepted g (a ∷ asks) m accepted = after-accepted g asks _ (step-accepted g (a .event) (a .new) (a .buffer) m accepted)
+
+pub run-accepted : (g : Given) (frames store : List ℕ) (asks : List Ask) → startRefusal g frames store ≡ 0
+    → Accepted g (after g (start g frames store) asks)
+run-accepted g frames store asks ok = after-accepted g asks (start g frames store) (start-accepted g frames store ok)
 
 after-sound : (g : Given) (asks : List Ask) (m : Machine) → T (sound (g .setup) (stateOf m)) → T (sound (g .setup) (stateOf (after g m asks)))
 unfolding after
@@ -48,6 +52,11 @@ unfolding after refused
 run-refused g frames store ten [] = refl
 run-refused g frames store ten (a ∷ asks) =
     rw (step-refused g frames store ten (a .event) (a .new) (a .buffer)) (run-refused g frames store ten asks)
+
+pub run-always-10 : (g : Given) (frames store : List ℕ) → startRefusal g frames store ≡ 10 → (asks : List Ask) (a : Ask)
+    → answered g (after g (start g frames store) asks) a ≡ refused 10 (start g frames store) (a .buffer)
+run-always-10 g frames store ten asks a =
+    rw (run-refused g frames store ten asks) (step-refused g frames store ten (a .event) (a .new) (a .buffer))
 
 -- a clean page's frame and slot
 after-clean : (g : Given) (d : Asid) (v : Gvpn) → Within (g .setup) d v → (asks : List Ask) (m : Machine) → CleanAt (g .setup) d v m

@@ -1,6 +1,6 @@
--- What holds in every state that a run reaches, for every setup, supply, lent frames and store, and every list of events with
--- their data and answer buffers. `reached g frames store asks` is the machine after the start over the lent frames and store
--- and after the events asked; `answered g m a` is what it then answers. Assumes nothing.
+-- What holds in every state that a run reaches, for every setup, supply, lent frames and store, and every list of events with their data
+-- and answer buffers. `reached g frames store asks` is the machine after the start over the lent frames and store and after the events
+-- asked; `answered g m a` is what a machine then answers (specs/States.antt).
 use mathlib.Core.Path.{_≡_}
 use mathlib.Core.Logic.{_≢_}
 use mathlib.Core.List.{List}
@@ -13,10 +13,9 @@ use Rattle.rules.specs.Answers.{refused, startRefusal, start}
 use Rattle.rules.specs.Runs.{Ask}
 use Rattle.rules.proofs.Tests.{passes}
 use Rattle.theorem_reached.specs.States.{reached, answered, CleanAgree}
-use Rattle.theorem_reached.proofs.DoneOrRefused.{step-told, step-counted}
+use Rattle.theorem_reached.proofs.DoneOrRefused.{step-counted, step-told}
 use Rattle.theorem_reached.proofs.Answer10.{step-answer, step-tells}
-use Rattle.theorem_reached.proofs.Start.{start-accepted, step-refused}
-use Rattle.theorem_reached.proofs.EveryRun.{after-accepted, run-sound, run-used, run-refused, run-clean}
+use Rattle.theorem_reached.proofs.EveryRun.{run-accepted, run-sound, run-used, run-clean, run-always-10}
 
 module _ (g : Given) (frames store : List ℕ) (asks : List Ask) where
   -- Every reached state is sound, even where the start was refused.
@@ -29,15 +28,17 @@ module _ (g : Given) (frames store : List ℕ) (asks : List Ask) where
 
   -- No event lets it fall.
   pub used-never-falls : (a : Ask)
-      → (reached g frames store asks) .tables .used ≤ (answered g (reached g frames store asks) a) .machine .tables .used
+      → let m = reached g frames store asks in
+      m .tables .used ≤ (answered g m a) .machine .tables .used
   used-never-falls a = (step-counted g (a .event) (a .new) (a .buffer) (reached g frames store asks)) .kept
 
   -- An event takes at most two signatures.
   pub two-signatures : (a : Ask)
-      → (answered g (reached g frames store asks) a) .machine .tables .used ≤ (reached g frames store asks) .tables .used + maxSeals
+      → let m = reached g frames store asks in
+      (answered g m a) .machine .tables .used ≤ m .tables .used + maxSeals
   two-signatures a = (step-counted g (a .event) (a .new) (a .buffer) (reached g frames store asks)) .few
 
-  -- It tells of at most two seals and one unveil.
+  -- An event tells of at most two seals and one unveil.
   pub few-told : (a : Ask)
       → let o = answered g (reached g frames store asks) a in
       (o .seals ≤ maxSeals) × (o .unveils ≤ 1)
@@ -49,18 +50,19 @@ module _ (g : Given) (frames store : List ℕ) (asks : List Ask) where
 
   -- After a start that was granted the machine is acceptable: sound, with the lent bytes as many as the setup says.
   pub reached-acceptable : startRefusal g frames store ≡ 0 → acceptable g (reached g frames store asks) ≡ true
-  reached-acceptable ok = passes _ ((after-accepted g asks (start g frames store) (start-accepted g frames store ok)) .ok)
+  reached-acceptable started = passes _ ((run-accepted g frames store asks started) .ok)
 
   -- So no event is refused with 10.
   pub never-10 : startRefusal g frames store ≡ 0 → (a : Ask) → (answered g (reached g frames store asks) a) .number ≢ 10
-  never-10 ok a = step-answer g (a .event) (a .new) (a .buffer) _ (after-accepted g asks (start g frames store) (start-accepted g frames store ok))
+  never-10 started a = step-answer g (a .event) (a .new) (a .buffer) _ (run-accepted g frames store asks started)
 
   -- And the used count that an answer tells is the machine's own.
   pub used-told : startRefusal g frames store ≡ 0 → (a : Ask)
-      → (answered g (reached g frames store asks) a) .used ≡ (answered g (reached g frames store asks) a) .machine .tables .used
-  used-told ok a = step-tells g (a .event) (a .new) (a .buffer) _ (after-accepted g asks (start g frames store) (start-accepted g frames store ok))
+      → let o = answered g (reached g frames store asks) a in
+      o .used ≡ o .machine .tables .used
+  used-told started a = step-tells g (a .event) (a .new) (a .buffer) _ (run-accepted g frames store asks started)
 
   -- After a start that was refused every event is refused with 10, and the machine stays as the start left it.
   pub always-10 : startRefusal g frames store ≡ 10 → (a : Ask)
       → answered g (reached g frames store asks) a ≡ refused 10 (start g frames store) (a .buffer)
-  always-10 ten a = rw (run-refused g frames store ten asks) (step-refused g frames store ten (a .event) (a .new) (a .buffer))
+  always-10 ten a = run-always-10 g frames store ten asks a

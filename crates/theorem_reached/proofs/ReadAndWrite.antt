@@ -54,43 +54,43 @@ module _ (g : Given) (m : Machine) where
     abbrev q : Machine
     q = sealAll g (sealedFirst f (placeOf s t d v)) m
 
-    pub q-accepted : Accepted g q
-    q-accepted = sealAll-accepted g _ m accepted (first-fits g m accepted f hf d v hd) enough
+    pub sealed-first-accepted : Accepted g q
+    sealed-first-accepted = sealAll-accepted g _ m accepted (first-fits g m accepted f hf d v hd) enough
 
-    pub q-quiet : (e : Asid) (w : Gvpn) → Within s e w → Quiet s e w m q
-    q-quiet e w he = sealAll-quiet g e w he _ m accepted (first-fits g m accepted f hf d v hd) enough
+    pub sealed-first-quiet : (e : Asid) (w : Gvpn) → Within s e w → Quiet s e w m q
+    sealed-first-quiet e w he = sealAll-quiet g e w he _ m accepted (first-fits g m accepted f hf d v hd) enough
 
     pub opened-quiet : (k : ℕ) → placeOf s (q .tables) d v ≡ Sealed k → namesOf (q .tables) f ≡ Nothing → (e : Asid) (w : Gvpn) → Within s e w
         → Quiet s e w m (unveiled g f d v k q)
     unfolding unveiled unveiledTables
-    opened-quiet k place none e w he = and-then (q-quiet e w he) (at (ℕ-discrete (pageNumber s e w) (pageNumber s d v)))
+    opened-quiet k place none e w he = and-then (sealed-first-quiet e w he) (at (ℕ-discrete (pageNumber s e w) (pageNumber s d v)))
       where
         enters : Enters g q f d v (Clean k) (slotBytes s d v q)
-        enters = sealed-enters g q q-accepted f hf d v hd k place none
+        enters = sealed-enters g q sealed-first-accepted f hf d v hd k place none
 
         at : Dec (pageNumber s e w ≡ pageNumber s d v) → Quiet s e w q (unveiled g f d v k q)
         at (yes p) =
             let r = number-one s e d w v (he .page) (hd .page) p in
             rw (r .0, r .1)
             (is-unveiled {m = q} {n = unveiled g f d v k q} f k place ((enter-holds g q f d v (Clean k) (slotBytes s d v q) enters (q .unveils + 1)) .place)
-            (unveil-restores g f d v k q hf (q-accepted .looks .frames) hd (q-accepted .looks .store)) refl (omega arith))
+            (unveil-restores g f d v k q hf (sealed-first-accepted .looks .frames) hd (sealed-first-accepted .looks .store)) refl (omega arith))
         at (no ne) = is-same (enter-stays g q f d v (Clean k) (slotBytes s d v q) enters (q .unveils + 1) e w he ne)
 
     did-failed : (act : Asid → Gvpn → Act) → Did g m act (failed (onTables (withLife d Stopped) q))
     unfolding failed
     did-failed act =
         record {
-          accepted = stopped-accepted g q q-accepted f hf d v hd;
-          fate = λ e w he. is-kept (and-then (q-quiet e w he) (is-same (stopped-stays g q q-accepted f hf d v hd e w)));
+          accepted = stopped-accepted g q sealed-first-accepted f hf d v hd;
+          fate = λ e w he. is-kept (and-then (sealed-first-quiet e w he) (is-same (stopped-stays g q sealed-first-accepted f hf d v hd e w)));
         }
 
     pub did-read : (act : Asid → Gvpn → Act) → ((e : Asid) (w : Gvpn) → act e w ≡ kept) → (bytes : Machine → List ℕ)
         → Did g m act (andThen (bringIn g f d v q) (λ n. done n (bytes n)))
     unfolding andThen done failed
     did-read act none bytes =
-        bring-in-either g q q-accepted f hf d v hd (touch-case g m accepted f hf d v hd enough) (λ e. Did g m act (andThen e (λ n. done n (bytes n))))
-        (λ _ _. did-kept act none q (bytes q) q-accepted q-quiet) (λ _ _. did-kept act none q (bytes q) q-accepted q-quiet)
-        (λ k place free _. did-kept act none _ _ (unveiled-accepted g q q-accepted f hf d v hd k place free) (opened-quiet k place free))
+        bring-in-either g q sealed-first-accepted f hf d v hd (touch-case g m accepted f hf d v hd enough) (λ e. Did g m act (andThen e (λ n. done n (bytes n))))
+        (λ _ _. did-kept act none q (bytes q) sealed-first-accepted sealed-first-quiet) (λ _ _. did-kept act none q (bytes q) sealed-first-accepted sealed-first-quiet)
+        (λ k place free _. did-kept act none _ _ (unveiled-accepted g q sealed-first-accepted f hf d v hd k place free) (opened-quiet k place free))
         (λ _ _ _ _. did-failed act)
 
     unfoldable pub writes : Span → List ℕ → Asid → Gvpn → Act
@@ -123,27 +123,27 @@ module _ (g : Given) (m : Machine) where
     unfolding writes
     did-shared x new shared none =
         subst (λ (n : Machine). Did g m (writes x new) (done n [])) (sym (unmarked s d v (storeSpan s f x new q) still))
-        (did-kept (writes x new) (λ e w. rw was) (storeSpan s f x new q) [] (span-accepted g q q-accepted f hf x new)
-        (λ e w he. and-then (q-quiet e w he) (is-same (span-stays g q q-accepted f hf x new none e w he))))
+        (did-kept (writes x new) (λ e w. rw was) (storeSpan s f x new q) [] (span-accepted g q sealed-first-accepted f hf x new)
+        (λ e w he. and-then (sealed-first-quiet e w he) (is-same (span-stays g q sealed-first-accepted f hf x new none e w he))))
       where
         was : isPublic (placeOf s t d v) ≡ true
-        was = sym (quiet-public s d v m q (q-quiet d v hd)) ∙ ap isPublic shared
+        was = sym (quiet-public s d v m q (sealed-first-quiet d v hd)) ∙ ap isPublic shared
 
         still : placeOf s ((storeSpan s f x new q) .tables) d v ≡ Public
-        still = (span-stays g q q-accepted f hf x new none d v hd) .place ∙ shared
+        still = (span-stays g q sealed-first-accepted f hf x new none d v hd) .place ∙ shared
 
     pub did-write : (x : Span) (new : List ℕ)
         → Did g m (writes x new) (andThen (bringIn g f d v q) (λ n. done (markedDirty s d v (storeSpan s f x new n)) []))
     unfolding andThen done failed
     did-write x new =
-        bring-in-either g q q-accepted f hf d v hd (touch-case g m accepted f hf d v hd enough)
+        bring-in-either g q sealed-first-accepted f hf d v hd (touch-case g m accepted f hf d v hd enough)
         (λ e. Did g m (writes x new) (andThen e (λ n. done (markedDirty s d v (storeSpan s f x new n)) [])))
         (λ shared none. did-shared x new shared none)
-        (λ y holds. did-put x new (was (ap isPublic (holds .place))) q q-accepted q-quiet y holds)
+        (λ y holds. did-put x new (was (ap isPublic (holds .place))) q sealed-first-accepted sealed-first-quiet y holds)
         (λ k place none _.
-        did-put x new (was (ap isPublic place)) (unveiled g f d v k q) (unveiled-accepted g q q-accepted f hf d v hd k place none)
-        (opened-quiet k place none) (Clean k) (opened-holds g q q-accepted f hf d v hd k place none))
+        did-put x new (was (ap isPublic place)) (unveiled g f d v k q) (unveiled-accepted g q sealed-first-accepted f hf d v hd k place none)
+        (opened-quiet k place none) (Clean k) (opened-holds g q sealed-first-accepted f hf d v hd k place none))
         (λ _ _ _ _. did-failed (writes x new))
       where
         was : isPublic (placeOf s (q .tables) d v) ≡ false → isPublic (placeOf s t d v) ≡ false
-        was p = sym (quiet-public s d v m q (q-quiet d v hd)) ∙ p
+        was p = sym (quiet-public s d v m q (sealed-first-quiet d v hd)) ∙ p
