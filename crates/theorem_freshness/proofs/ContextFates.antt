@@ -1,4 +1,6 @@
--- What becomes of a context in an event: it stays, is freed, runs, or is kept with the registers that it brought. Assumes nothing.
+-- What can become of a context in an event, and which of it each event does: it stays as it is, is freed, runs, or is kept with the
+-- registers
+-- that it brought.
 use mathlib.Core.Path.{_≡_, refl, sym, ap, _∙_}
 use mathlib.Core.List.{List}
 use mathlib.Core.Bool.{Bool, true, false, cond}
@@ -69,7 +71,7 @@ contextActOf t (Read u v x) new c = same
 contextActOf t (Write u v x) new c = same
 contextActOf t (Trap u k mask) new c = cond (sameContext u c) (keeps (domainOf t u) k (wordsIn 8 new)) same
 
--- the contexts are let be
+-- every context stays as it is
 pub record SameContexts (m n : Machine) : Type 0 where
   pub contexts : n .tables .contexts ≡ m .tables .contexts
   pub saved : n .saved ≡ m .saved
@@ -80,23 +82,26 @@ same-contexts m n a c = (
   ap (λ (l : List Registers). (getD l (c .0) zeroRegisters) .words) (a .saved),
 )
 
--- one is turned
+-- one context's activity and saved registers change
 module _ (g : Given) (m : Machine) (accepted : Accepted g m) (u : Ctc) (hu : u .0 < g .setup .contexts) (c : Ctc) where
   activity-here : (a : Activity) → u .0 ≡ c .0 → activityOf (withActivity u a (m .tables)) c ≡ a
   activity-here a q =
-      rw (← same-context u c q) (activity-same (m .tables) u a (omega (arith, accepted .looks .shapes .contexts, accepted .looks .sizes .contexts)))
+      rw (← same-context u c q)
+      (activity-same (m .tables) u a (omega (arith, accepted .looks .shapes .contexts, accepted .looks .sizes .contexts)))
 
   saved-here : (a : Activity) (words : List ℕ) → u .0 ≡ c .0 → savedOf (turned u a words m) c ≡ words
   unfolding turned
   saved-here a words q =
-      rw (← same-context u c q) (saved-same (onTables (withActivity u a) m) u words (omega (arith, accepted .looks .shapes .saved, accepted .looks .sizes .contexts)))
+      rw (← same-context u c q)
+      (saved-same (onTables (withActivity u a) m) u words (omega (arith, accepted .looks .shapes .saved, accepted .looks .sizes .contexts)))
 
   turned-there : (a : Activity) (words : List ℕ) → (u .0 ≡ c .0 → ⊥) → ContextFate same m (turned u a words m) c
   unfolding turned
   turned-there a words ne =
       (activity-other (m .tables) u a c (λ q. ne (sym q)), saved-other (onTables (withActivity u a) m) u words c (λ q. ne (sym q)))
 
-  turned-runs : (d : Asid) (words : List ℕ) (b : Bool) → sameContext u c ≡ b → ContextFate (cond b (runs d) same) m (turned u (Running d) words m) c
+  turned-runs : (d : Asid) (words : List ℕ) (b : Bool) → sameContext u c ≡ b
+      → ContextFate (cond b (runs d) same) m (turned u (Running d) words m) c
   unfolding turned
   turned-runs d words true q = activity-here (Running d) (eqb-true _ _ q)
   turned-runs d words false q = turned-there (Running d) words (eqb-false _ _ q)
@@ -113,7 +118,8 @@ module _ (g : Given) (m : Machine) (accepted : Accepted g m) (u : Ctc) (hu : u .
   turned-keeps d k words false q = turned-there (Kept d k) words (eqb-false _ _ q)
 
   -- and its saved registers left
-  activity-runs : (d : Asid) (b : Bool) → sameContext u c ≡ b → ContextFate (cond b (runs d) same) m (onTables (withActivity u (Running d)) m) c
+  activity-runs : (d : Asid) (b : Bool) → sameContext u c ≡ b
+      → ContextFate (cond b (runs d) same) m (onTables (withActivity u (Running d)) m) c
   activity-runs d true q = activity-here (Running d) (eqb-true _ _ q)
   activity-runs d false q = (activity-other (m .tables) u (Running d) c (λ p. eqb-false _ _ q (sym p)), refl)
 
@@ -122,10 +128,12 @@ module _ (g : Given) (m : Machine) (accepted : Accepted g m) (u : Ctc) (hu : u .
   begun-runs d true q = activity-here (Running d) (eqb-true _ _ q)
   begun-runs d false q = (activity-other (m .tables) u (Running d) c (λ p. eqb-false _ _ q (sym p)), refl)
 
-ended-context : (s : Setup) (d : Asid) (m : Machine) (c : Ctc) (b : Bool) → isIn d (activityOf (m .tables) c) ≡ b → ContextFate (cond b freed same) m (ended s d m) c
+ended-context : (s : Setup) (d : Asid) (m : Machine) (c : Ctc) (b : Bool) → isIn d (activityOf (m .tables) c) ≡ b
+    → ContextFate (cond b freed same) m (ended s d m) c
 unfolding ended
 ended-context s d m c true q = ended-activity s d (m .tables) c ∙ rw q
-ended-context s d m c false q = (ended-activity s d (m .tables) c ∙ rw q, ap (λ (r : Registers). r .words) (ended-saved s d m (c .0)) ∙ rw q)
+ended-context s d m c false q =
+    (ended-activity s d (m .tables) c ∙ rw q, ap (λ (r : Registers). r .words) (ended-saved s d m (c .0)) ∙ rw q)
 
 -- events on pages and frames let the contexts be
 bring-in-contexts : (g : Given) (f : Gppn) (d : Asid) (v : Gvpn) (m : Machine) (next : Machine → Effect)
@@ -148,29 +156,35 @@ uncloaked-contexts s d v m =
     placed (Sealed k) = record { contexts = refl; saved = refl }
 
 -- every event, once what it seals is sealed; t is the tables before that
-module _ (g : Given) (t : Tables) (new : List ℕ) (m : Machine) (accepted : Accepted g m) (as-before : m .tables .contexts ≡ t .contexts) (c : Ctc) where
+module _ (g : Given) (t : Tables) (new : List ℕ) (m : Machine) (accepted : Accepted g m) (as-before : m .tables .contexts ≡ t .contexts)
+    (c : Ctc) where
   does-to-context : (e : Event) → T (numbersIn (g .setup) e) → ContextFate (contextActOf t e new c) m ((does g t e new m) .machine) c
   unfolding does done contextActOf numbersIn storeSpan cloaked markedDirty
   does-to-context (Begin d u) n = begun-runs g m accepted u (context-below (g .setup) u ((each _ n) .1 .0)) c d (sameContext u c) refl
   does-to-context (End d) n =
-      ended-context (g .setup) d m c (isIn d (activityOf t c)) (ap (λ (l : List ContextRecord). isIn d ((getD l (c .0) freeContext) .activity)) as-before)
+      ended-context (g .setup) d m c (isIn d (activityOf t c))
+      (ap (λ (l : List ContextRecord). isIn d ((getD l (c .0) freeContext) .activity)) as-before)
   does-to-context (Map d v f) n = (refl, refl)
   does-to-context (Unmap d v) n = (refl, refl)
   does-to-context (KernelRead f x) n = (refl, refl)
   does-to-context (KernelWrite f x) n = (refl, refl)
-  does-to-context (Resume d u) n = turned-runs g m accepted u (context-below (g .setup) u ((each _ n) .1 .0)) c d (zeros 8) (sameContext u c) refl
-  does-to-context (Spawn b u) n = activity-runs g m accepted u (context-below (g .setup) u ((each _ n) .1 .0)) c (domainOf t b) (sameContext u c) refl
+  does-to-context (Resume d u) n =
+      turned-runs g m accepted u (context-below (g .setup) u ((each _ n) .1 .0)) c d (zeros 8) (sameContext u c) refl
+  does-to-context (Spawn b u) n =
+      activity-runs g m accepted u (context-below (g .setup) u ((each _ n) .1 .0)) c (domainOf t b) (sameContext u c) refl
   does-to-context (Leave u) n = turned-freed g m accepted u (context-below (g .setup) u n) c (zeros 8) (sameContext u c) refl
   does-to-context (Cloak u v) n = (refl, refl)
   does-to-context (Uncloak u v) n = same-contexts m _ (uncloaked-contexts (g .setup) (domainOf t u) v m) c
   does-to-context (Read u v x) n =
-      same-contexts m _ (bring-in-contexts g (ownFrame (g .setup) t u v) (domainOf t u) v m _ (λ n. record { contexts = refl; saved = refl })) c
+      same-contexts m _ (bring-in-contexts g (ownFrame (g .setup) t u v) (domainOf t u) v m _
+      (λ n. record { contexts = refl; saved = refl })) c
   does-to-context (Write u v x) n =
-      same-contexts m _ (bring-in-contexts g (ownFrame (g .setup) t u v) (domainOf t u) v m _ (λ n. record { contexts = refl; saved = refl })) c
+      same-contexts m _ (bring-in-contexts g (ownFrame (g .setup) t u v) (domainOf t u) v m _
+      (λ n. record { contexts = refl; saved = refl })) c
   does-to-context (Trap u k mask) n =
       turned-keeps g m accepted u (context-below (g .setup) u n) c (domainOf t u) k (wordsIn 8 new) (sameContext u c) refl
 
--- what is turned after a context was let be is turned from before
+-- what becomes of a context after it stayed as it was becomes of it from before
 after-same : (turn : ContextAct) (m q n : Machine) (c : Ctc) → ContextFate same m q c → ContextFate turn q n c → ContextFate turn m n c
 after-same same m q n c a b = (b .0 ∙ a .0, b .1 ∙ a .1)
 after-same freed m q n c a b = b
@@ -184,5 +198,6 @@ performs-on-context g m e new space p c =
     let fs = (row (g .setup) (m .tables) e) .seals in
     let a = sealAll-apart g fs m in
     let accepted = sealAll-accepted g fs m (p .accepted) (seals-fit g m space e (length new) p) (p .granted .signatures) in
-    after-same (contextActOf (m .tables) e new c) m (sealAll g fs m) _ c (same-contexts m (sealAll g fs m) (record { contexts = a .contexts; saved = a .saved }) c)
+    after-same (contextActOf (m .tables) e new c) m (sealAll g fs m) _ c
+    (same-contexts m (sealAll g fs m) (record { contexts = a .contexts; saved = a .saved }) c)
     (does-to-context g (m .tables) new (sealAll g fs m) accepted (a .contexts) c e (p .granted .numbers))

@@ -1,4 +1,4 @@
--- What is told of a page is what a granted read of it gives. Assumes nothing.
+-- A granted read of a private page gives what the past tells of the page's bytes.
 use mathlib.Core.Path.{_≡_, sym, ap, _∙_}
 use mathlib.Core.List.{List}
 use mathlib.Core.Bool.{true, false}
@@ -84,5 +84,6 @@ module _ (g : Given) (m : Machine) (h : List Past) (known : Known g m h) (c : Ct
 
   pub read-last : (pageBy h ((contextBy h c) .home) v) .private ≡ true
       → (length ((step g (Read c v x) new buffer m) .bytes) ≡ x .len)
-      × ((i : ℕ) → i < x .len → getD ((step g (Read c v x) new buffer m) .bytes) i 0 ≡ (pageBy h ((contextBy h c) .home) v) .lastWritten (x .off + i))
+      × ((i : ℕ) → i < x .len → getD ((step g (Read c v x) new buffer m) .bytes) i 0 ≡ (pageBy h ((contextBy h c) .home) v) .lastWritten
+      (x .off + i))
   read-last = rw read-home here

@@ -1,4 +1,5 @@
--- What each file under Main.antt is for stands at its head.
+-- Main.antt holds the theorems. The files under it say what becomes of contexts and pages, that a run's past tells it, and when a domain
+-- stops; each says at its head what it shows.
 pub mod PageContents
 pub mod ContextFates
 pub mod ToldContexts

@@ -1,5 +1,5 @@
 -- A page that is touched while its frame holds anything but its latest signature: the answer is 8 and its domain is Stopped. An
--- older signature of the page is such a thing where the signatures differ. Assumes nothing.
+-- older signature of the page is such a thing where the supply's signatures differ.
 use mathlib.Core.Bool.{true}
 use mathlib.Core.Path.{_≡_, refl, sym, _∙_}
 use mathlib.Core.Logic.{_≢_}
@@ -65,13 +65,16 @@ module _ (g : Given) (m : Machine) (w : Touch) (c : Ctc) (v : Gvpn) (x : Span) (
 
   touched-accepted : Accepted g q
   unfolding outset
-  touched-accepted = sealAll-accepted g _ (outset m) (p .accepted) (seals-fit g (outset m) (length buffer) (touch w c v x) (length new) p) (p .granted .signatures)
+  touched-accepted =
+      sealAll-accepted g _ (outset m) (p .accepted) (seals-fit g (outset m) (length buffer) (touch w c v x) (length new) p)
+      (p .granted .signatures)
 
   touched-quiet : Quiet (g .setup) d v m q
   unfolding outset
   touched-quiet =
       and-then (outset-quiet g (touch w c v x) new buffer m d v)
-      (sealAll-quiet g d v touch-within _ (outset m) (p .accepted) (seals-fit g (outset m) (length buffer) (touch w c v x) (length new) p) (p .granted .signatures))
+      (sealAll-quiet g d v touch-within _ (outset m) (p .accepted) (seals-fit g (outset m) (length buffer) (touch w c v x) (length new) p)
+      (p .granted .signatures))
 
   -- the page is away, and its frame holds something else
   module _ (k : ℕ) (place : placeOf (g .setup) (q .tables) d v ≡ Sealed k) where
@@ -97,7 +100,8 @@ module _ (g : Given) (m : Machine) (w : Touch) (c : Ctc) (v : Gvpn) (x : Span) (
         let up : j + 1 ≤ k = bears-new (j + 1) k (Sealed k) (rw place at (s .place)) (eqb-refl k) in
         let low : k < q .tables .used = accepted .looks .agrees .sealed d v k (touch-within .domain) (touch-within .page) place in
         touch-stops
-        (λ same. distinct j k (omega (arith, accepted .looks .agrees .used)) (omega (arith, accepted .looks .agrees .used)) (omega arith) (sym held ∙ same))
+        (λ same. distinct j k (omega (arith, accepted .looks .agrees .used)) (omega (arith, accepted .looks .agrees .used)) (omega arith)
+        (sym held ∙ same))
 
 -- After a write, a signature that the page bore before it.
 module _ (g : Given) (frames store : List ℕ) (started : startRefusal g frames store ≡ 0) (earlier between later : List Ask)

@@ -1,5 +1,4 @@
 -- A page that is written anew never bears an older signature again: from then on each signature that it bears was unused before.
--- Assumes nothing.
 use mathlib.Core.Path.{_≡_, refl, _∙_}
 use mathlib.Core.List.{List, [], _∷_}
 use mathlib.Core.Bool.{Bool, true, false, cond}
@@ -91,16 +90,18 @@ module _ (s : Setup) (d : Asid) (v : Gvpn) (u : ℕ) where
   public-anew m n more (is-kept q) shared =
       record { used = more; place = rw (is-public (placeOf s (n .tables) d v) (quiet-public s d v m n q ∙ shared)) tt }
 
-pub after-since : (g : Given) (d : Asid) (v : Gvpn) → Within (g .setup) d v → (u : ℕ) (asks : List Ask) (m : Machine) → Since (g .setup) d v u m
-    → Since (g .setup) d v u (after g m asks)
+pub after-since : (g : Given) (d : Asid) (v : Gvpn) → Within (g .setup) d v → (u : ℕ) (asks : List Ask) (m : Machine)
+    → Since (g .setup) d v u m → Since (g .setup) d v u (after g m asks)
 unfolding after
 after-since g d v hd u [] m h = h
 after-since g d v hd u (a ∷ asks) m h =
     after-since g d v hd u asks _
-    (fate-since (g .setup) d v u m _ _ ((step-counted g (a .event) (a .new) (a .buffer) m) .kept) (step-fate g (a .event) (a .new) (a .buffer) m d v hd) h)
+    (fate-since (g .setup) d v u m _ _ ((step-counted g (a .event) (a .new) (a .buffer) m) .kept)
+    (step-fate g (a .event) (a .new) (a .buffer) m d v hd) h)
 
 -- a granted write
-module _ (g : Given) (c : Ctc) (v : Gvpn) (x : Span) (new buffer : List ℕ) (m : Machine) (ok : (step g (Write c v x) new buffer m) .number ≡ 0) where
+module _ (g : Given) (c : Ctc) (v : Gvpn) (x : Span) (new buffer : List ℕ) (m : Machine)
+    (ok : (step g (Write c v x) new buffer m) .number ≡ 0) where
   abbrev d : Asid
   d = domainOf (m .tables) c
 
@@ -115,7 +116,8 @@ module _ (g : Given) (c : Ctc) (v : Gvpn) (x : Span) (new buffer : List ℕ) (m 
   unfolding actOf ownPlace sameNumber
   write-anew =
       at (isPublic (placeOf (g .setup) (m .tables) d v)) refl
-      (rw (ok, eq-eqb (pageNumber (g .setup) d v) (pageNumber (g .setup) d v) refl) at (step-fate g (Write c v x) new buffer m d v write-within))
+      (rw (ok, eq-eqb (pageNumber (g .setup) d v) (pageNumber (g .setup) d v) refl) at
+      (step-fate g (Write c v x) new buffer m d v write-within))
     where
       at : (b : Bool) → isPublic (placeOf (g .setup) (m .tables) d v) ≡ b → Fate (g .setup) d v m n (cond b kept (put (x .off) new))
           → Since (g .setup) d v (n .tables .used) n
@@ -126,11 +128,16 @@ pub after-used : (g : Given) (asks : List Ask) (m : Machine) → m .tables .used
 unfolding after
 after-used g [] m = omega arith
 after-used g (a ∷ asks) m =
-    omega (arith, (step-counted g (a .event) (a .new) (a .buffer) m) .kept, after-used g asks ((step g (a .event) (a .new) (a .buffer) m) .machine))
+    omega (
+      arith,
+      (step-counted g (a .event) (a .new) (a .buffer) m) .kept,
+      after-used g asks
+          ((step g (a .event) (a .new) (a .buffer) m) .machine),
+    )
 
 -- a signature that a page bears is used
-bears-used : (s : Setup) (t : Tables) → Agreed s t → (d : Asid) (v : Gvpn) → Within s d v → (j : ℕ) (p : Place) → placeOf s t d v ≡ p → T (bears j p)
-    → j < t .used
+bears-used : (s : Setup) (t : Tables) → Agreed s t → (d : Asid) (v : Gvpn) → Within s d v → (j : ℕ) (p : Place) → placeOf s t d v ≡ p
+    → T (bears j p) → j < t .used
 bears-used s t agrees d v hd j Public e h = absurd h
 bears-used s t agrees d v hd j (Clear f Dirty) e h = absurd h
 bears-used s t agrees d v hd j (Clear f (Clean k)) e h = omega (arith, eqb→eq k j h, agrees .worn d v f k (hd .domain) (hd .page) e)

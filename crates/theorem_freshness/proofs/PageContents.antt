@@ -1,5 +1,4 @@
--- What a private page holds: its frame's bytes where it is Clear, its slot's where it is Sealed. Moving it about keeps that, and a
--- write lays its data over it. Assumes nothing.
+-- What a private page holds: its frame's bytes where it is Clear, its slot's where it is Sealed. Sealing and unveiling it keep that.
 use mathlib.Core.Path.{_≡_, refl, sym, _∙_}
 use mathlib.Core.List.{List}
 use Prim.Native.Nat.{ℕ}

@@ -1,4 +1,4 @@
--- What a run's past tells of contexts and pages is true of the machine that it reaches. Assumes nothing.
+-- What a run's past tells of contexts and pages is true of the machine that it reaches.
 use mathlib.Core.Path.{_≡_, refl, sym, ap, _∙_}
 use mathlib.Core.List.{List, [], _∷_}
 use mathlib.Core.Bool.{Bool, true, false, not, cond, true≢false}
@@ -48,8 +48,10 @@ module _ (g : Given) (e : Event) (new buffer : List ℕ) (m : Machine) (h : List
       let p = answered-0 g e new buffer m (eqb-true _ _ q) in
       let k = known .pages d v hd in
       fate-known (g .setup) d v m n (pageBy h d v) (pageAfter e new (contextBy h) d v (pageBy h d v)) k
-      (λ private. sym (ap length (quiet-contents (g .setup) d v m (outset m) (outset-quiet g e new buffer m d v))) ∙ contents-whole g (outset m) (p .accepted) d v hd private) (actOf (g .setup) (m .tables) e new d v) fate
-      (tells g (outset m) new (length buffer) (contextBy h) (λ c r. running-home m c (contextBy h c) (known .contexts c) r) d v hd (pageBy h d v) (k .private) e p)
+      (λ private. sym (ap length (quiet-contents (g .setup) d v m (outset m) (outset-quiet g e new buffer m d v))) ∙ contents-whole g
+      (outset m) (p .accepted) d v hd private) (actOf (g .setup) (m .tables) e new d v) fate
+      (tells g (outset m) new (length buffer) (contextBy h) (λ c r. running-home m c (contextBy h c) (known .contexts c) r) d v hd
+      (pageBy h d v) (k .private) e p)
   page-known d v hd false q fate = same-known (g .setup) d v m n (pageBy h d v) (known .pages d v hd) fate
 
   pub step-known : Known g n (record { event = e; new = new; number = (step g e new buffer m) .number } ∷ h)

@@ -1,4 +1,4 @@
--- A granted read of a private page gives what the page holds, and a granted resume what was saved. Assumes nothing.
+-- A granted read of a private page gives what the page holds, and a granted resume what was saved.
 use mathlib.Core.Path.{_≡_, refl, sym, ap, _∙_}
 use mathlib.Core.List.{List}
 use mathlib.Core.Bool.{false, true≢false}
@@ -39,8 +39,10 @@ use Rattle.theorem_freshness.proofs.PageContents.{contents, contents-cl
 use Rattle.theorem_freshness.proofs.ToldContexts.{KnownContext}
 
 -- a page brought in and read
-module _ (g : Given) (m : Machine) (accepted : Accepted g m) (f : Gppn) (hf : f .0 < g .setup .frames) (d : Asid) (v : Gvpn) (hd : Within (g .setup) d v)
-    (enough : Enough g (sealedFirst f (placeOf (g .setup) (m .tables) d v)) m) (private : isPublic (placeOf (g .setup) (m .tables) d v) ≡ false) (x : Span) where
+module _ (g : Given) (m : Machine) (accepted : Accepted g m) (f : Gppn) (hf : f .0 < g .setup .frames) (d : Asid) (v : Gvpn)
+    (hd : Within (g .setup) d v)
+    (enough : Enough g (sealedFirst f (placeOf (g .setup) (m .tables) d v)) m)
+    (private : isPublic (placeOf (g .setup) (m .tables) d v) ≡ false) (x : Span) where
   abbrev s : Setup
   s = g .setup
 
@@ -53,17 +55,20 @@ module _ (g : Given) (m : Machine) (accepted : Accepted g m) (f : Gppn) (hf : f 
   there : (n : Machine) (w : Wear) → Holds s (n .tables) f d v w → Quiet s d v m n → given (done n (spanBytes s f x n))
   unfolding done spanBytes
   there n w holds quiet _ =
-      ap (λ (b : List ℕ). take (x .len) (drop (x .off) b)) (sym (contents-clear s d v f w n (holds .place)) ∙ quiet-contents s d v m n quiet)
+      ap (λ (b : List ℕ). take (x .len) (drop (x .off) b))
+      (sym (contents-clear s d v f w n (holds .place)) ∙ quiet-contents s d v m n quiet)
 
   pub brought-in-read : given (andThen (bringIn g f d v q) (λ n. done n (spanBytes s f x n)))
   unfolding andThen done failed
   brought-in-read =
       bring-in-either g q (sealed-first-accepted g m accepted f hf d v hd enough) f hf d v hd (touch-case g m accepted f hf d v hd enough)
       (λ e. given (andThen e (λ n. done n (spanBytes s f x n))))
-      (λ place _. absurd (true≢false (sym (ap isPublic place) ∙ quiet-public s d v m q (sealed-first-quiet g m accepted f hf d v hd enough d v hd) ∙ private)))
+      (λ place _. absurd (true≢false
+      (sym (ap isPublic place) ∙ quiet-public s d v m q (sealed-first-quiet g m accepted f hf d v hd enough d v hd) ∙ private)))
       (λ w holds. there q w holds (sealed-first-quiet g m accepted f hf d v hd enough d v hd))
       (λ k place none _.
-      there (unveiled g f d v k q) (Clean k) (opened-holds g q (sealed-first-accepted g m accepted f hf d v hd enough) f hf d v hd k place none)
+      there (unveiled g f d v k q) (Clean k)
+      (opened-holds g q (sealed-first-accepted g m accepted f hf d v hd enough) f hf d v hd k place none)
       (opened-quiet g m accepted f hf d v hd enough k place none d v hd))
       (λ _ _ _ _ e. absurd (suc-ne-zero 7 e))
 
@@ -80,8 +85,10 @@ module _ (g : Given) (m : Machine) (new buffer : List ℕ) where
       let own = read-own g (outset m) c v (length new) (length buffer) x p in
       let t = m .tables in
       let d = domainOf t c in
-      brought-in-read g (outset m) (p .accepted) (ownFrame (g .setup) t c v) (own .frame (p .granted .mapped)) d v (own .within) (p .granted .signatures) private x e
-      ∙ ap (λ (b : List ℕ). take (x .len) (drop (x .off) b)) (quiet-contents (g .setup) d v m (outset m) (outset-quiet g (Read c v x) new buffer m d v)))
+      brought-in-read g (outset m) (p .accepted) (ownFrame (g .setup) t c v) (own .frame (p .granted .mapped)) d v (own .within)
+      (p .granted .signatures) private x e
+      ∙ ap (λ (b : List ℕ). take (x .len) (drop (x .off) b))
+      (quiet-contents (g .setup) d v m (outset m) (outset-quiet g (Read c v x) new buffer m d v)))
       (λ n _ ne e. absurd (ne e))
 
   pub resume-gives : (d : Asid) (c : Ctc) (x : OfContext) → KnownContext m c x → (step g (Resume d c) new buffer m) .number ≡ 0
@@ -91,7 +98,8 @@ module _ (g : Given) (m : Machine) (new buffer : List ℕ) where
       step-either g (Resume d c) new buffer m (λ o. o .number ≡ 0 → o .bytes ≡ bytesOf (resumedWith x (number new)))
       (λ p _. ap bytesOf (saved (activityOf (m .tables) c) refl (p .granted .condition))) (λ n _ ne e. absurd (ne e))
     where
-      saved : (a : Activity) → activityOf (m .tables) c ≡ a → T (isKeptIn d a) → resumed a (number new) (savedOf m c) ≡ resumedWith x (number new)
+      saved : (a : Activity) → activityOf (m .tables) c ≡ a → T (isKeptIn d a)
+          → resumed a (number new) (savedOf m c) ≡ resumedWith x (number new)
       saved Free e t = absurd t
       saved (Running e′) e t = absurd t
       saved (Kept e′ k) e t =

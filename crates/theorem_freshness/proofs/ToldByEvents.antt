@@ -1,4 +1,4 @@
--- Each granted event tells of a page what its act makes of it. Assumes nothing.
+-- What a granted event tells of a page, looking back, is what the event's act on the page makes of it.
 use mathlib.Core.Path.{_≡_, refl, sym, ap, _∙_}
 use mathlib.Core.List.{List, [], _∷_}
 use mathlib.Core.Bool.{Bool, true, false, not, cond, true≢false}
@@ -49,7 +49,8 @@ same-as s d v e w hd he = at (eqb (pageNumber s d v) (pageNumber s e w)) refl (s
     at false p false q = refl
 
 module _ (g : Given) (m : Machine) (new : List ℕ) (space : ℕ) (context : Ctc → OfContext)
-    (at-home : (c : Ctc) → T (running (m .tables) c) → (context c) .home ≡ domainOf (m .tables) c) (d : Asid) (v : Gvpn) (hd : Within (g .setup) d v)
+    (at-home : (c : Ctc) → T (running (m .tables) c) → (context c) .home ≡ domainOf (m .tables) c) (d : Asid) (v : Gvpn)
+    (hd : Within (g .setup) d v)
     (x : OfPage) (private : x .private ≡ not (isPublic (placeOf (g .setup) (m .tables) d v))) where
   abbrev s : Setup
   s = g .setup
@@ -61,7 +62,8 @@ module _ (g : Given) (m : Machine) (new : List ℕ) (space : ℕ) (context : Ctc
   Tells e = Unrefused g m e (length new) space → Told (s .size) (actOf s t e new d v) x (pageAfter e new context d v x)
 
   -- the page of a running context is told by its home
-  own-told : (c : Ctc) (w : Gvpn) → OwnPage s t c w → T (running t c) → sameNumber s (domainOf t c) w d v ≡ samePage ((context c) .home) w d v
+  own-told : (c : Ctc) (w : Gvpn) → OwnPage s t c w → T (running t c)
+      → sameNumber s (domainOf t c) w d v ≡ samePage ((context c) .home) w d v
   own-told c w own r = same-as s (domainOf t c) w d v (own .within) hd ∙ ap (λ (e : Asid). samePage e w d v) (sym (at-home c r))
 
   ends : (e : Asid) → Tells (End e)
@@ -74,7 +76,9 @@ module _ (g : Given) (m : Machine) (new : List ℕ) (space : ℕ) (context : Ctc
 
   cloaks : (c : Ctc) (w : Gvpn) → Tells (Cloak c w)
   unfolding actOf pageAfter
-  cloaks c w p = rw (own-told c w (cloak-own g m c w (length new) space p) (cloak-runs g m c w (length new) space p)) (at (samePage ((context c) .home) w d v))
+  cloaks c w p =
+      rw (own-told c w (cloak-own g m c w (length new) space p) (cloak-runs g m c w (length new) space p))
+      (at (samePage ((context c) .home) w d v))
     where
       at : (b : Bool) → Told (s .size) (cond b zeroed kept) x (cond b (record { private = true; lastWritten = λ i. 0 }) x)
       at true = (refl, λ i. refl)
@@ -82,7 +86,9 @@ module _ (g : Given) (m : Machine) (new : List ℕ) (space : ℕ) (context : Ctc
 
   uncloaks : (c : Ctc) (w : Gvpn) → Tells (Uncloak c w)
   unfolding actOf pageAfter
-  uncloaks c w p = rw (own-told c w (uncloak-own g m c w (length new) space p) (uncloak-runs g m c w (length new) space p)) (at (samePage ((context c) .home) w d v))
+  uncloaks c w p =
+      rw (own-told c w (uncloak-own g m c w (length new) space p) (uncloak-runs g m c w (length new) space p))
+      (at (samePage ((context c) .home) w d v))
     where
       at : (b : Bool) → Told (s .size) (cond b dropped kept) x (cond b shared x)
       at true = refl
@@ -113,7 +119,8 @@ module _ (g : Given) (m : Machine) (new : List ℕ) (space : ℕ) (context : Ctc
 
       at : (a : Bool) → isPublic (placeOf s t (domainOf t c) w) ≡ a → (b : Bool) → samePage ((context c) .home) w d v ≡ b
           → Told (s .size) (cond a kept (cond b (put (z .off) new) kept)) x (after b)
-      at true q true e = (refl, λ h i. absurd (true≢false (sym h ∙ private ∙ ap (λ (k : Place). not (isPublic k)) (sym (own e)) ∙ ap not q)))
+      at true q true e =
+          (refl, λ h i. absurd (true≢false (sym h ∙ private ∙ ap (λ (k : Place). not (isPublic k)) (sym (own e)) ∙ ap not q)))
       at true q false e = (refl, λ _ i. refl)
       at false q true e =
           let n : length new ≡ z .len = p .granted .brings in
@@ -121,7 +128,8 @@ module _ (g : Given) (m : Machine) (new : List ℕ) (space : ℕ) (context : Ctc
           (omega arith, refl, λ i. ap (λ (k : ℕ). cond (covers (span (z .off) k) i) (getD new (i - z .off) 0) (x .lastWritten i)) (sym n))
       at false q false e = (refl, λ _ i. refl)
 
-  pub tells : (e : Event) → Unrefused g m e (length new) space → Told (g .setup .size) (actOf (g .setup) (m .tables) e new d v) x (pageAfter e new context d v x)
+  pub tells : (e : Event) → Unrefused g m e (length new) space
+      → Told (g .setup .size) (actOf (g .setup) (m .tables) e new d v) x (pageAfter e new context d v x)
   unfolding actOf pageAfter
   tells (Begin e c) p = (refl, λ _ i. refl)
   tells (End e) p = ends e p

@@ -1,5 +1,5 @@
 -- What the past tells of a context is true: of one that is not Free its domain, and of a Kept one its trap's kind and its saved
--- registers. Assumes nothing.
+-- registers.
 use mathlib.Core.Path.{_≡_, refl, sym, ap, _∙_, subst}
 use mathlib.Core.List.{List}
 use mathlib.Core.Bool.{Bool, true, false, not, cond}
@@ -74,11 +74,13 @@ kept-home d (Running e) t = absurd t
 kept-home d (Kept e k) t = (tt, same-domain e d (eqb→eq _ _ t))
 
 -- a running context is where it was told to be
-pub running-home : (m : Machine) (c : Ctc) (x : OfContext) → KnownContext m c x → T (running (m .tables) c) → x .home ≡ domainOf (m .tables) c
+pub running-home : (m : Machine) (c : Ctc) (x : OfContext) → KnownContext m c x → T (running (m .tables) c)
+    → x .home ≡ domainOf (m .tables) c
 unfolding running
 running-home m c x known r = known .home (is-free (activityOf (m .tables) c) r)
 
-module _ (g : Given) (m : Machine) (new : List ℕ) (space : ℕ) (before : Ctc → OfContext) (known : (c : Ctc) → KnownContext m c (before c)) (c : Ctc) where
+module _ (g : Given) (m : Machine) (new : List ℕ) (space : ℕ) (before : Ctc → OfContext) (known : (c : Ctc) → KnownContext m c (before c))
+    (c : Ctc) where
   abbrev t : Tables
   t = m .tables
 
@@ -86,10 +88,12 @@ module _ (g : Given) (m : Machine) (new : List ℕ) (space : ℕ) (before : Ctc 
   at-home u r = running-home m u (before u) (known u) r
 
   abbrev Knows : Event → Type 0
-  Knows e = Unrefused g m e (length new) space → (n : Machine) → ContextFate (contextActOf t e new c) m n c → KnownContext n c (contextAfter e new before c)
+  Knows e =
+      Unrefused g m e (length new) space → (n : Machine) → ContextFate (contextActOf t e new c) m n c → KnownContext n c
+      (contextAfter e new before c)
 
-  let-be : (n : Machine) → ContextFate same m n c → KnownContext n c (before c)
-  let-be n h = known-same m n c (before c) h (known c)
+  stays-known : (n : Machine) → ContextFate same m n c → KnownContext n c (before c)
+  stays-known n h = known-same m n c (before c) h (known c)
 
   begins : (d : Asid) (u : Ctc) → Knows (Begin d u)
   unfolding contextActOf contextAfter
@@ -98,7 +102,7 @@ module _ (g : Given) (m : Machine) (new : List ℕ) (space : ℕ) (before : Ctc 
       at : (b : Bool) → ContextFate (cond b (runs d) same) m n c
           → KnownContext n c (cond b (record { home = d; kind = (before c) .kind; registers = (before c) .registers }) (before c))
       at true h = known-runs m n c _ d h refl
-      at false h = let-be n h
+      at false h = stays-known n h
 
   ends : (d : Asid) → Knows (End d)
   unfolding contextActOf contextAfter
@@ -106,7 +110,7 @@ module _ (g : Given) (m : Machine) (new : List ℕ) (space : ℕ) (before : Ctc 
     where
       at : (b : Bool) → ContextFate (cond b freed same) m n c → KnownContext n c (before c)
       at true h = known-freed m n c (before c) h
-      at false h = let-be n h
+      at false h = stays-known n h
 
   resumes : (d : Asid) (u : Ctc) → Knows (Resume d u)
   unfolding contextActOf contextAfter row onRecords
@@ -117,16 +121,17 @@ module _ (g : Given) (m : Machine) (new : List ℕ) (space : ℕ) (before : Ctc 
           let k = kept-home d (activityOf t u) (p .granted .condition) in
           let e = same-context u c (eqb-true _ _ q) in
           known-runs m n c (before c) d h (subst (λ (v : Ctc). (before v) .home ≡ d) e ((known u) .home (k .0) ∙ k .1))
-      at false q h = let-be n h
+      at false q h = stays-known n h
 
   spawns : (b u : Ctc) → Knows (Spawn b u)
   unfolding contextActOf contextAfter row acting
   spawns b u p n h = at (sameContext u c) h
     where
       at : (z : Bool) → ContextFate (cond z (runs (domainOf t b)) same) m n c
-          → KnownContext n c (cond z (record { home = (before b) .home; kind = (before c) .kind; registers = (before c) .registers }) (before c))
+          → KnownContext n c (cond z (record { home = (before b) .home; kind = (before c) .kind; registers = (before c) .registers })
+          (before c))
       at true h = known-runs m n c _ (domainOf t b) h (at-home b ((each _ (p .granted .condition)) .0))
-      at false h = let-be n h
+      at false h = stays-known n h
 
   leaves : (u : Ctc) → Knows (Leave u)
   unfolding contextActOf contextAfter
@@ -134,7 +139,7 @@ module _ (g : Given) (m : Machine) (new : List ℕ) (space : ℕ) (before : Ctc 
     where
       at : (b : Bool) → ContextFate (cond b freed same) m n c → KnownContext n c (before c)
       at true h = known-freed m n c (before c) h
-      at false h = let-be n h
+      at false h = stays-known n h
 
   traps : (u : Ctc) (k : TrapKind) (mask : ℕ) → Knows (Trap u k mask)
   unfolding contextActOf contextAfter row acting
@@ -146,23 +151,23 @@ module _ (g : Given) (m : Machine) (new : List ℕ) (space : ℕ) (before : Ctc 
           let e = same-context u c (eqb-true _ _ q) in
           known-keeps m n c _ (domainOf t u) k (h .0) (h .1)
           (subst (λ (v : Ctc). (before v) .home ≡ domainOf t u) e (at-home u ((each _ (p .granted .condition)) .0))) refl
-      at false q h = let-be n h
+      at false q h = stays-known n h
 
   knows : (e : Event) → Knows e
   unfolding contextActOf contextAfter
   knows (Begin d u) p n h = begins d u p n h
   knows (End d) p n h = ends d p n h
-  knows (Map d v f) p n h = let-be n h
-  knows (Unmap d v) p n h = let-be n h
-  knows (KernelRead f x) p n h = let-be n h
-  knows (KernelWrite f x) p n h = let-be n h
+  knows (Map d v f) p n h = stays-known n h
+  knows (Unmap d v) p n h = stays-known n h
+  knows (KernelRead f x) p n h = stays-known n h
+  knows (KernelWrite f x) p n h = stays-known n h
   knows (Resume d u) p n h = resumes d u p n h
   knows (Spawn b u) p n h = spawns b u p n h
   knows (Leave u) p n h = leaves u p n h
-  knows (Cloak u v) p n h = let-be n h
-  knows (Uncloak u v) p n h = let-be n h
-  knows (Read u v x) p n h = let-be n h
-  knows (Write u v x) p n h = let-be n h
+  knows (Cloak u v) p n h = stays-known n h
+  knows (Uncloak u v) p n h = stays-known n h
+  knows (Read u v x) p n h = stays-known n h
+  knows (Write u v x) p n h = stays-known n h
   knows (Trap u k mask) p n h = traps u k mask p n h
 
 outset-same : (m : Machine) (c : Ctc) → ContextFate same m (outset m) c
@@ -188,8 +193,8 @@ touch-tells g t (Read u v x) new q before c = cond-same (eqb ((does g t (Read u 
 touch-tells g t (Write u v x) new q before c = cond-same (eqb ((does g t (Write u v x) new q) .number) 0) (before c)
 touch-tells g t (Trap u k mask) new q before c = refl
 
-pub step-knows : (g : Given) (e : Event) (new buffer : List ℕ) (m : Machine) (before : Ctc → OfContext) → ((c : Ctc) → KnownContext m c (before c)) → (c : Ctc)
-    → KnownContext ((step g e new buffer m) .machine) c
+pub step-knows : (g : Given) (e : Event) (new buffer : List ℕ) (m : Machine) (before : Ctc → OfContext)
+    → ((c : Ctc) → KnownContext m c (before c)) → (c : Ctc) → KnownContext ((step g e new buffer m) .machine) c
     (cond (eqb ((step g e new buffer m) .number) 0) (contextAfter e new before c) (before c))
 unfolding performed refused perform
 step-knows g e new buffer m before known c =

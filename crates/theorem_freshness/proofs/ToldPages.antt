@@ -1,4 +1,4 @@
--- What the past tells of a page is true: whether it is private, and if so each of its bytes. Assumes nothing.
+-- What the past tells of a page is true: whether it is private, and if so each of its bytes.
 use mathlib.Core.Path.{_≡_, refl, sym, ap, _∙_, subst}
 use mathlib.Core.List.{List, [], _∷_}
 use mathlib.Core.Bool.{true, false, not, cond, true≢false}
@@ -58,7 +58,8 @@ getD-overlay at new old fits i = low (decLe at i)
         let past : at + length new ≤ i = omega arith in
         rw (le-ltb i (at + length new) past) (getD-sets-past old new at 0 fits i past)
 
-    low : Dec (at ≤ i) → getD (lib.Seq.sets old at new) i 0 ≡ cond (allOf (leb at i ∷ ltb i (at + length new) ∷ [])) (getD new (i - at) 0) (getD old i 0)
+    low : Dec (at ≤ i)
+        → getD (lib.Seq.sets old at new) i 0 ≡ cond (allOf (leb at i ∷ ltb i (at + length new) ∷ [])) (getD new (i - at) 0) (getD old i 0)
     low (yes h) = rw (le-leb at i h) (high h (decLt i (at + length new)))
     low (no h) =
         let before : i < at = omega arith in
@@ -69,8 +70,8 @@ unfolding zeros
 getD-zeros n i h = getD-replicate n i 0 0 h
 
 -- a private page's bytes are as many as a page has
-pub contents-whole : (g : Given) (m : Machine) → Accepted g m → (d : Asid) (v : Gvpn) → Within (g .setup) d v → isPublic (placeOf (g .setup) (m .tables) d v) ≡ false
-    → length (contents (g .setup) d v m) ≡ g .setup .size
+pub contents-whole : (g : Given) (m : Machine) → Accepted g m → (d : Asid) (v : Gvpn) → Within (g .setup) d v
+    → isPublic (placeOf (g .setup) (m .tables) d v) ≡ false → length (contents (g .setup) d v m) ≡ g .setup .size
 contents-whole g m accepted d v hd private = at (placeOf (g .setup) (m .tables) d v) refl private
   where
     at : (p : Place) → placeOf (g .setup) (m .tables) d v ≡ p → isPublic p ≡ false → length (contents (g .setup) d v m) ≡ g .setup .size
@@ -114,7 +115,8 @@ module _ (s : Setup) (d : Asid) (v : Gvpn) (m n : Machine) (x y : OfPage) (known
   fate-known whole a (is-put o f w at new q was place laid) told =
       let private : isPublic (placeOf s (m .tables) d v) ≡ false = sym (quiet-public s d v m o q) ∙ ap isPublic was in
       let holds : contents s d v n ≡ overlay at new (contents s d v m) =
-      contents-clear s d v f Dirty n place ∙ laid ∙ ap (overlay at new) (sym (contents-clear s d v f w o was) ∙ quiet-contents s d v m o q) in
+      contents-clear s d v f Dirty n place ∙ laid ∙ ap (overlay at new)
+      (sym (contents-clear s d v f w o was) ∙ quiet-contents s d v m o q) in
       let is-private = known .private ∙ ap not private in
       record {
         private = told .1 ∙ is-private ∙ sym (ap (λ (p : Place). not (isPublic p)) place);
@@ -126,6 +128,7 @@ module _ (s : Setup) (d : Asid) (v : Gvpn) (m n : Machine) (x y : OfPage) (known
             ∙ sym (told .2 i);
       }
 
--- a page that is let be is known as before
-pub same-known : (s : Setup) (d : Asid) (v : Gvpn) (m n : Machine) (x : OfPage) → KnownPage s d v m x → Fate s d v m n kept → KnownPage s d v n x
+-- a page whose bytes stay as they are is known as before
+pub same-known : (s : Setup) (d : Asid) (v : Gvpn) (m n : Machine) (x : OfPage) → KnownPage s d v m x → Fate s d v m n kept
+    → KnownPage s d v n x
 same-known s d v m n x known fate = kept-known s d v m n x x known (quiet-of fate) (refl, λ _ i. refl)

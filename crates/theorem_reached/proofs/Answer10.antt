@@ -1,4 +1,4 @@
--- The answer 10 is for machines that are not acceptable, and for no other. Assumes nothing.
+-- An acceptable machine answers no event with 10, and the used count that its answer tells is its own.
 use mathlib.Core.Path.{ap, _≡_, refl, sym, _∙_}
 use mathlib.Core.Logic.{_≢_}
 use mathlib.Core.List.{List, []}
@@ -70,7 +70,8 @@ checks-answer s t e r new room =
 refusal-answer : (g : Given) (m : Machine) → T (acceptable g m) → (e : Event) (new room : ℕ) → refusal g m e new room ≢ 10
 unfolding refusal
 refusal-answer g m ok e new room ten =
-    checks-answer (g .setup) (m .tables) e (row (g .setup) (m .tables) e) new room (sym (first-skipped 10 _ _ (ap not (passes (acceptable g m) ok))) ∙ ten)
+    checks-answer (g .setup) (m .tables) e (row (g .setup) (m .tables) e) new room
+    (sym (first-skipped 10 _ _ (ap not (passes (acceptable g m) ok))) ∙ ten)
 
 pub step-answer : (g : Given) (e : Event) (new buffer : List ℕ) (m : Machine) → Accepted g m → (step g e new buffer m) .number ≢ 10
 unfolding performed refused perform
@@ -85,4 +86,5 @@ pub step-tells : (g : Given) (e : Event) (new buffer : List ℕ) (m : Machine) �
 unfolding performed refused
 step-tells g e new buffer m accepted =
     step-either g e new buffer m (λ o. o .used ≡ o .machine .tables .used) (λ p. refl)
-    (λ n q ne. rw (ne-eqb n 10 (λ ten. refusal-answer g (outset m) ((outset-accepted g m accepted) .ok) e (length new) (length buffer) (q ∙ ten))))
+    (λ n q ne. rw (ne-eqb n 10
+    (λ ten. refusal-answer g (outset m) ((outset-accepted g m accepted) .ok) e (length new) (length buffer) (q ∙ ten))))

@@ -1,4 +1,5 @@
--- Bringing a page in, and storing to it: what there is to show of a touched page, in four cases. Assumes nothing.
+-- Bringing a page in at the frame to which it is mapped, and storing bytes there. Bringing in does nothing, or unveils the page, or stops
+-- its domain; each time the machine stays acceptable.
 use mathlib.Core.Path.{_≡_, refl, sym, ap, _∙_}
 use mathlib.Core.Logic.{_≢_}
 use mathlib.Core.List.{List, []}
@@ -36,7 +37,8 @@ use Rattle.theorem_reached.proofs.SealPage.{Holds, Stays, frames-apart}
 use Rattle.theorem_reached.proofs.MakeClear.{none-clear, filled, unfilled, fill-accepted, Enters, enter-accepted, enter-holds}
 use Rattle.theorem_reached.proofs.TouchCases.{TouchCase, public, there, away}
 
-module _ (g : Given) (n : Machine) (accepted : Accepted g n) (f : Gppn) (hf : f .0 < g .setup .frames) (d : Asid) (v : Gvpn) (hd : Within (g .setup) d v) where
+module _ (g : Given) (n : Machine) (accepted : Accepted g n) (f : Gppn) (hf : f .0 < g .setup .frames) (d : Asid) (v : Gvpn)
+    (hd : Within (g .setup) d v) where
   abbrev s : Setup
   s = g .setup
 
@@ -56,7 +58,8 @@ module _ (g : Given) (n : Machine) (accepted : Accepted g n) (f : Gppn) (hf : f 
         whole = slot-whole s d v n hd (accepted .looks .store);
       }
 
-  pub unveiled-accepted : (k : ℕ) → placeOf s (n .tables) d v ≡ Sealed k → namesOf (n .tables) f ≡ Nothing → Accepted g (unveiled g f d v k n)
+  pub unveiled-accepted : (k : ℕ) → placeOf s (n .tables) d v ≡ Sealed k → namesOf (n .tables) f ≡ Nothing
+      → Accepted g (unveiled g f d v k n)
   unfolding unveiled unveiledTables
   unveiled-accepted k place none = enter-accepted g n f d v (Clean k) (slotBytes s d v n) (sealed-enters k place none) (n .unveils + 1)
 
@@ -80,8 +83,7 @@ module _ (g : Given) (n : Machine) (accepted : Accepted g n) (f : Gppn) (hf : f 
       → ((k : ℕ) → placeOf s (n .tables) d v ≡ Sealed k → namesOf (n .tables) f ≡ Nothing → frameBytes s f n ≡ signature g k
       → P (done (unveiled g f d v k n) []))
       → ((k : ℕ) → placeOf s (n .tables) d v ≡ Sealed k → namesOf (n .tables) f ≡ Nothing → frameBytes s f n ≢ signature g k
-      → P (failed (onTables (withLife d Stopped) n)))
-      → P (bringIn g f d v n)
+      → P (failed (onTables (withLife d Stopped) n))) → P (bringIn g f d v n)
   unfolding bringIn bringInAt
   bring-in-either (public p none) P a b c e = rw p (a p none)
   bring-in-either (there w h) P a b c e = rw (h .place) (b w h)
@@ -91,7 +93,8 @@ module _ (g : Given) (n : Machine) (accepted : Accepted g n) (f : Gppn) (hf : f 
       compared true q = rw (unveil-compares g f d v k n true q) (c k p none (same-bytes _ _ q))
       compared false q =
           rw (unveil-compares g f d v k n false q)
-          (e k p none (λ same. true≢false (sym (bytes-same (signature g k)) ∙ ap (λ (x : List ℕ). sameBytes x (signature g k)) (sym same) ∙ q)))
+          (e k p none (λ same. true≢false
+          (sym (bytes-same (signature g k)) ∙ ap (λ (x : List ℕ). sameBytes x (signature g k)) (sym same) ∙ q)))
 
 -- what bringing in can come to, whatever the page and the frame are
 pub bring-in-cases : (g : Given) (f : Gppn) (d : Asid) (v : Gvpn) (m : Machine) (P : Effect → Type 0) → P (done m [])
@@ -152,7 +155,8 @@ module _ (g : Given) (n : Machine) (accepted : Accepted g n) (f : Gppn) (hf : f 
   unfolding storeSpan
   span-frames h ne = unfilled (g .setup) f hf n (accepted .looks .frames) (overlay (x .off) new (frameBytes (g .setup) f n)) laid-whole h ne
 
-  pub span-stays : namesOf (n .tables) f ≡ Nothing → (e : Asid) (y : Gvpn) → Within (g .setup) e y → Stays (g .setup) e y n (storeSpan (g .setup) f x new n)
+  pub span-stays : namesOf (n .tables) f ≡ Nothing → (e : Asid) (y : Gvpn) → Within (g .setup) e y
+      → Stays (g .setup) e y n (storeSpan (g .setup) f x new n)
   unfolding storeSpan
   span-stays none e y he =
       record {
@@ -174,19 +178,22 @@ module _ (g : Given) (n : Machine) (accepted : Accepted g n) (f : Gppn) (hf : f 
     unfolding markedDirty storeSpan
     stored-place =
         place-same (g .setup) (n .tables) d v
-        (number-long (g .setup) (stateOf n) (accepted .looks .sizes) (accepted .looks .sound) d v (holds .within .domain) (holds .within .page)) _
+        (number-long (g .setup) (stateOf n) (accepted .looks .sizes) (accepted .looks .sound) d v (holds .within .domain)
+        (holds .within .page)) _
         ∙ dirty
 
     pub stored-frame : frameBytes (g .setup) f o ≡ overlay (x .off) new (frameBytes (g .setup) f n)
     unfolding markedDirty
     stored-frame = span-frame
 
-    pub stored-stays : (e : Asid) (y : Gvpn) → Within (g .setup) e y → pageNumber (g .setup) e y ≢ pageNumber (g .setup) d v → Stays (g .setup) e y n o
+    pub stored-stays : (e : Asid) (y : Gvpn) → Within (g .setup) e y → pageNumber (g .setup) e y ≢ pageNumber (g .setup) d v
+        → Stays (g .setup) e y n o
     unfolding markedDirty storeSpan
     stored-stays e y he ne =
         record {
           place = place-other (g .setup) (n .tables) d v _ e y ne;
-          frame = λ h z c. span-frames h (frames-apart (g .setup) (n .tables) (accepted .looks .agrees) f d v (holds .names) e y he ne h z c);
+          frame =
+              λ h z c. span-frames h (frames-apart (g .setup) (n .tables) (accepted .looks .agrees) f d v (holds .names) e y he ne h z c);
           slot = refl;
           used = omega arith;
         }
@@ -197,7 +204,8 @@ module _ (g : Given) (n : Machine) (accepted : Accepted g n) (f : Gppn) (hf : f 
         let laid = span-accepted in
         let page = accepted .looks .sound .page d v (holds .within .domain) (holds .within .page) in
         accepted-kept g (storeSpan (g .setup) f x new n) o laid refl refl
-        (place-replaced (g .setup) (stateOf n) (accepted .looks .sizes) (accepted .looks .sound) d v (holds .within .domain) (holds .within .page)
+        (place-replaced (g .setup) (stateOf n) (accepted .looks .sizes) (accepted .looks .sound) d v (holds .within .domain)
+        (holds .within .page)
         (written (placeOf (g .setup) (n .tables) d v))
         (rw dirty (all _ (lt→ltb _ _ hf, (rw (holds .names) (names-self d v), (tt, tt)))))
         (owned-lives (g .setup) (n .tables) d v _ page (rw (holds .place) tt))

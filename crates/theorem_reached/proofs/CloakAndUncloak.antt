@@ -1,5 +1,5 @@
--- Cloaking a page at a frame that names none, and uncloaking one: the machine stays acceptable, and of each page's bytes is left what
--- its act says.
+-- Cloaking a page at a frame that names none, and uncloaking one: the machine stays acceptable, the page is zero or Public afterwards, and
+-- every other page stays as it is.
 use mathlib.Core.Path.{_≡_, refl, sym}
 use mathlib.Core.Logic.{_≢_}
 use mathlib.Core.Bool.{Bool, true, false, not, cond, true≢false}
@@ -65,7 +65,8 @@ module _ (g : Given) (m : Machine) (accepted : Accepted g m) where
     unfolding cloaked
     cloak-accepted = enter-accepted g m f d v Dirty (zeros (s .size)) cloak-enters (m .unveils)
 
-    pub cloak-fate : (e : Asid) (w : Gvpn) → Within s e w → (b : Bool) → sameNumber s d v e w ≡ b → Fate s e w m (cloaked s f d v m) (cond b zeroed kept)
+    pub cloak-fate : (e : Asid) (w : Gvpn) → Within s e w → (b : Bool) → sameNumber s d v e w ≡ b
+        → Fate s e w m (cloaked s f d v m) (cond b zeroed kept)
     unfolding cloaked sameNumber
     cloak-fate e w he true q =
         let k = number-one s d e v w (hd .page) (he .page) (eqb-true _ _ q) in
@@ -80,7 +81,8 @@ module _ (g : Given) (m : Machine) (accepted : Accepted g m) where
         → slotBytes s e w (fillSlot s d v (zeros (s .size)) k) ≡ slotBytes s e w m
     dropped-store k q e w ne =
         rw q
-        (part-other (s .size) (pageNumber s d v) (zeros (s .size)) (m .store) (length-zeros (s .size)) (slot-fits s d v m hd (accepted .looks .store)) (pageNumber s e w) ne)
+        (part-other (s .size) (pageNumber s d v) (zeros (s .size)) (m .store) (length-zeros (s .size))
+        (slot-fits s d v m hd (accepted .looks .store)) (pageNumber s e w) ne)
 
     zeroed-pages : (p : Place) → (zeroIfClear s p m) .tables .pages ≡ m .tables .pages
     unfolding zeroIfClear
@@ -95,7 +97,8 @@ module _ (g : Given) (m : Machine) (accepted : Accepted g m) where
         let n = accepted .looks .agrees .named d v f w (hd .domain) (hd .page) e in
         accepted-kept g m (uncloakedAt s d v (Clear f w) m) accepted (length-withPart (s .size) (f .0) _ (m .frames))
         (length-withPart (s .size) (pageNumber s d v) (zeros (s .size)) (m .store))
-        (moved-sound s (stateOf m) (accepted .looks .sizes) (accepted .looks .sound) d v (hd .domain) (hd .page) f (n .0) lives (λ h c. clear-in f h w _ e c)
+        (moved-sound s (stateOf m) (accepted .looks .sizes) (accepted .looks .sound) d v (hd .domain) (hd .page) f (n .0) lives
+        (λ h c. clear-in f h w _ e c)
         (λ x y r.
         let names = n .1 in
         let px : x ≡ d = cc in
@@ -103,14 +106,22 @@ module _ (g : Given) (m : Machine) (accepted : Accepted g m) where
         rw (px, py))
         (m .tables .used) (omega arith) (accepted .looks .sound .used) Public Nothing tt tt)
     uncloak-accepted-at (Sealed k) e q =
-        accepted-kept g m (uncloakedAt s d v (Sealed k) m) accepted refl (length-withPart (s .size) (pageNumber s d v) (zeros (s .size)) (m .store))
-        (place-replaced s (stateOf m) (accepted .looks .sizes) (accepted .looks .sound) d v (hd .domain) (hd .page) Public tt lives (λ h c. absurd (rw e at c)))
+        accepted-kept g m (uncloakedAt s d v (Sealed k) m) accepted refl
+        (length-withPart (s .size) (pageNumber s d v) (zeros (s .size)) (m .store))
+        (place-replaced s (stateOf m) (accepted .looks .sizes) (accepted .looks .sound) d v (hd .domain) (hd .page) Public tt lives
+        (λ h c. absurd (rw e at c)))
 
-    uncloak-stays-at : (p : Place) → placeOf s (m .tables) d v ≡ p → (e : Asid) (w : Gvpn) → Within s e w → pageNumber s e w ≢ pageNumber s d v
-        → Stays s e w m (uncloakedAt s d v p m)
+    uncloak-stays-at : (p : Place) → placeOf s (m .tables) d v ≡ p → (e : Asid) (w : Gvpn) → Within s e w
+        → pageNumber s e w ≢ pageNumber s d v → Stays s e w m (uncloakedAt s d v p m)
     unfolding uncloakedAt zeroIfClear
     uncloak-stays-at Public q e w he ne =
-        record { place = place-other s (m .tables) d v _ e w ne; frame = λ f z c. refl; slot = dropped-store m refl e w ne; used = omega arith }
+        record {
+          place = place-other s (m .tables) d v _ e w ne;
+          frame =
+              λ f z c. refl;
+          slot = dropped-store m refl e w ne;
+          used = omega arith;
+        }
     uncloak-stays-at (Clear f y) q e w he ne =
         let n = accepted .looks .agrees .named d v f y (hd .domain) (hd .page) q in
         let page = whole-page (s .size) (f .0) (m .frames) (part-fits (s .size) (f .0) (s .frames) (n .0) (accepted .looks .frames)) in
@@ -124,7 +135,13 @@ module _ (g : Given) (m : Machine) (accepted : Accepted g m) where
           used = omega arith;
         }
     uncloak-stays-at (Sealed k) q e w he ne =
-        record { place = place-other s (m .tables) d v _ e w ne; frame = λ f z c. refl; slot = dropped-store m refl e w ne; used = omega arith }
+        record {
+          place = place-other s (m .tables) d v _ e w ne;
+          frame =
+              λ f z c. refl;
+          slot = dropped-store m refl e w ne;
+          used = omega arith;
+        }
 
     pub uncloak-accepted : isPublic (placeOf s (m .tables) d v) ≡ false → Accepted g (uncloaked s d v m)
     unfolding uncloaked uncloakedAt
@@ -135,11 +152,14 @@ module _ (g : Given) (m : Machine) (accepted : Accepted g m) where
     uncloak-place =
         let p = placeOf s (m .tables) d v in
         place-same s ((zeroIfClear s p m) .tables) d v
-        (rw (zeroed-pages p) (number-long s (stateOf m) (accepted .looks .sizes) (accepted .looks .sound) d v (hd .domain) (hd .page))) Public
+        (rw (zeroed-pages p) (number-long s (stateOf m) (accepted .looks .sizes) (accepted .looks .sound) d v (hd .domain)
+        (hd .page))) Public
 
-    pub uncloak-fate : (e : Asid) (w : Gvpn) → Within s e w → (b : Bool) → sameNumber s d v e w ≡ b → Fate s e w m (uncloaked s d v m) (cond b dropped kept)
+    pub uncloak-fate : (e : Asid) (w : Gvpn) → Within s e w → (b : Bool) → sameNumber s d v e w ≡ b
+        → Fate s e w m (uncloaked s d v m) (cond b dropped kept)
     unfolding sameNumber uncloaked uncloakedAt
     uncloak-fate e w he true q =
         let k = number-one s d e v w (hd .page) (he .page) (eqb-true _ _ q) in
         rw (← k .0, ← k .1) (is-dropped uncloak-place)
-    uncloak-fate e w he false q = is-kept (is-same (uncloak-stays-at (placeOf s (m .tables) d v) refl e w he (λ p. eqb-false _ _ q (sym p))))
+    uncloak-fate e w he false q =
+        is-kept (is-same (uncloak-stays-at (placeOf s (m .tables) d v) refl e w he (λ p. eqb-false _ _ q (sym p))))

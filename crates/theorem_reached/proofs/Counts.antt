@@ -1,5 +1,5 @@
 -- The signatures that an event takes, and the seals and unveils that it counts: beyond what it seals, an event takes no signature
--- and counts at most one unveil. Assumes nothing.
+-- and counts at most one unveil.
 use mathlib.Core.Path.{_≡_, refl}
 use mathlib.Core.List.{List, [], _∷_}
 use Prim.Native.Nat.{ℕ, _+_, _≤_}
@@ -83,7 +83,8 @@ unfolding sealPage
 seal-counts g f m =
     seal-cases g f m (λ n. (n .seals ≤ m .seals + 1) × (n .unveils ≡ m .unveils)) (omega arith) (λ d v w. omega arith)
 
-pub sealAll-counts : (g : Given) (fs : List Gppn) (m : Machine) → ((sealAll g fs m) .seals ≤ m .seals + length fs) × ((sealAll g fs m) .unveils ≡ m .unveils)
+pub sealAll-counts : (g : Given) (fs : List Gppn) (m : Machine)
+    → ((sealAll g fs m) .seals ≤ m .seals + length fs) × ((sealAll g fs m) .unveils ≡ m .unveils)
 unfolding sealAll
 sealAll-counts g [] m = omega arith
 sealAll-counts g (f ∷ fs) m =

@@ -1,5 +1,5 @@
--- One event from an acceptable machine: done or refused, the machine stays acceptable, the counts are bounded, and each page has one
--- of the fates. Assumes nothing.
+-- One event asked of a machine: it is done or refused. Either way the machine stays acceptable, the counts are bounded, and each page's
+-- bytes are as the event's act on the page says.
 use mathlib.Core.Path.{_≡_, refl}
 use mathlib.Core.Logic.{_≢_}
 use mathlib.Core.List.{List}
@@ -39,7 +39,8 @@ module _ (g : Given) (e : Event) (new buffer : List ℕ) (m : Machine) where
   -- an event is done, having passed all checks, or refused by one
   pub step-either : (P : Outcome → Type 0)
       → (Unrefused g (outset m) e (length new) (length buffer) → P (performed (perform g e new (outset m)) buffer))
-      → ((n : ℕ) → refusal g (outset m) e (length new) (length buffer) ≡ n → n ≢ 0 → P (refused n (outset m) buffer)) → P (step g e new buffer m)
+      → ((n : ℕ) → refusal g (outset m) e (length new) (length buffer) ≡ n → n ≢ 0 → P (refused n (outset m) buffer))
+      → P (step g e new buffer m)
   unfolding step stepFrom
   step-either P doing refusing = go (eqb r 0) refl
     where
@@ -59,7 +60,8 @@ module _ (g : Given) (e : Event) (new buffer : List ℕ) (m : Machine) where
   -- an event that is answered 0 was refused by no check
   pub answered-0 : (step g e new buffer m) .number ≡ 0 → Unrefused g (outset m) e (length new) (length buffer)
   unfolding performed refused
-  answered-0 = step-either (λ o. o .number ≡ 0 → Unrefused g (outset m) e (length new) (length buffer)) (λ p _. p) (λ n _ ne q. absurd (ne q))
+  answered-0 =
+      step-either (λ o. o .number ≡ 0 → Unrefused g (outset m) e (length new) (length buffer)) (λ p _. p) (λ n _ ne q. absurd (ne q))
 
   pub outset-quiet : (d : Asid) (v : Gvpn) → Quiet (g .setup) d v m (outset m)
   unfolding outset
@@ -70,7 +72,8 @@ module _ (g : Given) (e : Event) (new buffer : List ℕ) (m : Machine) where
   pub step-accepted : Accepted g m → Accepted g ((step g e new buffer m) .machine)
   unfolding performed refused
   step-accepted accepted =
-      step-either (λ o. Accepted g (o .machine)) (λ p. (performs g (outset m) new (length buffer) e p) .accepted) (λ n _ _. outset-accepted g m accepted)
+      step-either (λ o. Accepted g (o .machine)) (λ p. (performs g (outset m) new (length buffer) e p) .accepted)
+      (λ n _ _. outset-accepted g m accepted)
 
   -- a sound state stays sound, whatever the setup and the lent bytes
   pub step-sound : T (sound (g .setup) (stateOf m)) → T (sound (g .setup) (stateOf ((step g e new buffer m) .machine)))
@@ -81,7 +84,8 @@ module _ (g : Given) (e : Event) (new buffer : List ℕ) (m : Machine) where
 
   -- what becomes of each page
   pub step-fate : (d : Asid) (v : Gvpn) → Within (g .setup) d v
-      → Fate (g .setup) d v m ((step g e new buffer m) .machine) (cond (eqb ((step g e new buffer m) .number) 0) (actOf (g .setup) (m .tables) e new d v) kept)
+      → Fate (g .setup) d v m ((step g e new buffer m) .machine)
+      (cond (eqb ((step g e new buffer m) .number) 0) (actOf (g .setup) (m .tables) e new d v) kept)
   unfolding performed refused outset
   step-fate d v h =
       step-either (λ o. Fate (g .setup) d v m (o .machine) (cond (eqb (o .number) 0) (actOf (g .setup) (m .tables) e new d v) kept))

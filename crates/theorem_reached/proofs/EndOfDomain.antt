@@ -1,5 +1,4 @@
 -- The end of a domain: what then stands in each table, in each frame and in each slot, and that the machine stays acceptable.
--- Assumes nothing.
 use mathlib.Core.Path.{_≡_, refl, sym, ap, _∙_}
 use mathlib.Core.Logic.{_≢_}
 use mathlib.Core.Bool.{Bool, true, false, not, cond, true≢false}
@@ -54,7 +53,8 @@ ended-activity s d t c =
     ap (λ r. r .activity) (List·getD-map (λ r. cond (isIn d (r .activity)) freeContext r) (t .contexts) (c .0) freeContext)
     ∙ cond-map (λ (r : ContextRecord). r .activity) (isIn d (activityOf t c)) freeContext _
 
-pub ended-names : (s : Setup) (d : Asid) (t : Tables) (f : Gppn) → namesOf (endedTables s d t) f ≡ cond (namesIn d (namesOf t f)) Nothing (namesOf t f)
+pub ended-names : (s : Setup) (d : Asid) (t : Tables) (f : Gppn)
+    → namesOf (endedTables s d t) f ≡ cond (namesIn d (namesOf t f)) Nothing (namesOf t f)
 unfolding endedTables
 ended-names s d t f =
     ap (λ r. r .names) (List·getD-map (λ r. cond (namesIn d (r .names)) openFrame r) (t .frames) (f .0) openFrame)
@@ -112,7 +112,8 @@ module _ (g : Given) (m : Machine) (accepted : Accepted g m) (d : Asid) (hd : d 
     where
       go : Dec (i < s .frames) → i < s .frames
       go (yes h) = h
-      go (no h) = absurd (none (namesOf (m .tables) (record { 0 = i })) (accepted .looks .sound .frame-past (record { 0 = i }) (omega arith)) t)
+      go (no h) =
+          absurd (none (namesOf (m .tables) (record { 0 = i })) (accepted .looks .sound .frame-past (record { 0 = i }) (omega arith)) t)
         where
           none : (n : Named) → T (namesNone n) → T (namesIn d n) → ⊥
           none Nothing a b = b
@@ -126,7 +127,8 @@ module _ (g : Given) (m : Machine) (accepted : Accepted g m) (d : Asid) (hd : d 
   pub ended-slot : (e : Asid) (w : Gvpn) → e .0 ≢ d .0 → w .0 < s .pages → slotBytes s e w (ended s d m) ≡ slotBytes s e w m
   unfolding ended
   ended-slot e w ne hw =
-      part-outside (s .size) (s .pages) (d .0) (e .0) (w .0) (s .domains) (zeros (s .pages * s .size)) (m .store) (length-zeros _) (accepted .looks .store) hd hw ne
+      part-outside (s .size) (s .pages) (d .0) (e .0) (w .0) (s .domains) (zeros (s .pages * s .size)) (m .store) (length-zeros _)
+      (accepted .looks .store) hd hw ne
 
   not-in : (n : Named) (e : Asid) (w : Gvpn) → e .0 ≢ d .0 → n ≡ Page e w → namesIn d n ≡ false
   not-in n e w ne q = rw q (ne-eqb (e .0) (d .0) ne)
@@ -176,9 +178,11 @@ module _ (g : Given) (m : Machine) (accepted : Accepted g m) (d : Asid) (hd : d 
   page-sound e w he (no ne) =
       rw (ended-other s d (m .tables) hd long e w ne (he .page))
       (owned-kept s (m .tables) u (omega arith) e w (pageOf s (m .tables) e w) (lived e ne)
-      (λ f y c n. ended-names s d (m .tables) f ∙ rw (not-in (namesOf (m .tables) f) e w ne n) n) (accepted .looks .sound .page e w (he .domain) (he .page)))
+      (λ f y c n. ended-names s d (m .tables) f ∙ rw (not-in (namesOf (m .tables) f) e w ne n) n)
+      (accepted .looks .sound .page e w (he .domain) (he .page)))
 
-  frame-sound : (f : Gppn) (n : Named) (b : Bool) → namesIn d n ≡ b → T (namesSound s (m .tables) f n) → T (namesSound s u f (cond b Nothing n))
+  frame-sound : (f : Gppn) (n : Named) (b : Bool) → namesIn d n ≡ b → T (namesSound s (m .tables) f n)
+      → T (namesSound s u f (cond b Nothing n))
   unfolding namesSound
   frame-sound f n true q t = tt
   frame-sound f n false q t =
@@ -215,12 +219,17 @@ module _ (g : Given) (m : Machine) (accepted : Accepted g m) (d : Asid) (hd : d 
         used = h .used;
         domain-past = λ e past. rw (ended-life s d (m .tables) e (omega arith)) (h .domain-past e past);
         context = λ c hc. rw (ended-activity s d (m .tables) c) (context-sound (activityOf (m .tables) c) _ refl (h .context c hc));
-        context-past = λ c past. rw (ended-activity s d (m .tables) c) (context-free (activityOf (m .tables) c) (isIn d (activityOf (m .tables) c)) (h .context-past c past));
-        saved-past = λ i past. rw (ended-saved s d m i) (zero-still _ (isIn d (activityOf (m .tables) (record { 0 = i }))) (h .saved-past i past));
+        context-past =
+            λ c past. rw (ended-activity s d (m .tables) c)
+            (context-free (activityOf (m .tables) c) (isIn d (activityOf (m .tables) c)) (h .context-past c past));
+        saved-past =
+            λ i past. rw (ended-saved s d m i) (zero-still _ (isIn d (activityOf (m .tables) (record { 0 = i }))) (h .saved-past i past));
         page = λ e w he hw. page-sound e w (record { domain = he; page = hw }) (ℕ-discrete (e .0) (d .0));
         page-past = λ i past. rw (ended-past s d (m .tables) hd long i past) (h .page-past i past);
         frame = λ f hf. rw (ended-names s d (m .tables) f) (frame-sound f (namesOf (m .tables) f) _ refl (h .frame f hf));
-        frame-past = λ f past. rw (ended-names s d (m .tables) f) (frame-none (namesOf (m .tables) f) (namesIn d (namesOf (m .tables) f)) (h .frame-past f past));
+        frame-past =
+            λ f past. rw (ended-names s d (m .tables) f)
+            (frame-none (namesOf (m .tables) f) (namesIn d (namesOf (m .tables) f)) (h .frame-past f past));
       }
 
   pub ended-accepted : Accepted g (ended s d m)

@@ -1,4 +1,5 @@
--- Each event that is not refused leaves an acceptable machine, and of each page's bytes what its act says. Assumes nothing.
+-- Each of the fourteen events, where no check refuses it: the machine stays acceptable, and each page's bytes are as the event's act on the
+-- page says.
 use mathlib.Core.Path.{_≡_, refl}
 use mathlib.Core.List.{List, [], _∷_}
 use mathlib.Core.Bool.{Bool, true, false, not, cond}
@@ -47,8 +48,8 @@ use Rattle.theorem_reached.proofs.ReadAndWrite.{did-kept, did-read, did
 use Rattle.theorem_reached.proofs.BringIn.{span-accepted, span-stays}
 
 -- a Kept context's domain is begun
-kept-begun : (s : Setup) (t : Tables) → Agreed s t → (c : Ctc) → c .0 < s .contexts → (d : Asid) (a : Activity) → activityOf t c ≡ a → T (isKeptIn d a)
-    → T (activitySound s t (Running d))
+kept-begun : (s : Setup) (t : Tables) → Agreed s t → (c : Ctc) → c .0 < s .contexts → (d : Asid) (a : Activity) → activityOf t c ≡ a
+    → T (isKeptIn d a) → T (activitySound s t (Running d))
 unfolding activitySound begun domainIn
 kept-begun s t agrees c hc d Free e h = absurd h
 kept-begun s t agrees c hc d (Running x) e h = absurd h
@@ -93,7 +94,8 @@ module _ (g : Given) (m : Machine) (new : List ℕ) (space : ℕ) where
       let hd = domain-below s d (p .granted .numbers) in
       record { accepted = ended-accepted g m (p .accepted) d hd; fate = λ e w he. at hd e w he (eqb (e .0) (d .0)) refl }
     where
-      at : d .0 < s .domains → (e : Asid) (w : Gvpn) → Within s e w → (b : Bool) → eqb (e .0) (d .0) ≡ b → Fate s e w m (ended s d m) (cond b dropped kept)
+      at : d .0 < s .domains → (e : Asid) (w : Gvpn) → Within s e w → (b : Bool) → eqb (e .0) (d .0) ≡ b
+          → Fate s e w m (ended s d m) (cond b dropped kept)
       at hd e w he true q = is-dropped (ended-public g m (p .accepted) d hd e w he (eqb-true _ _ q))
       at hd e w he false q = is-kept (is-same (ended-stays g m (p .accepted) d hd e w he (eqb-false _ _ q)))
 
@@ -137,7 +139,8 @@ module _ (g : Given) (m : Machine) (new : List ℕ) (space : ℕ) where
       let n = each _ (p .granted .numbers) in
       let hc = context-below s c (n .1 .0) in
       did-kept g m _ (λ e w. refl) _ _
-      (turned-accepted g m (p .accepted) c hc (Running d) (kept-begun s t (p .accepted .looks .agrees) c hc d (activityOf t c) refl (p .granted .condition)) (zeros 8))
+      (turned-accepted g m (p .accepted) c hc (Running d)
+      (kept-begun s t (p .accepted .looks .agrees) c hc d (activityOf t c) refl (p .granted .condition)) (zeros 8))
       (λ e w he. is-same (turned-stays g m (p .accepted) c (Running d) (zeros 8) e w))
 
   spawn : (c u : Ctc) → Performs (Spawn c u)
@@ -146,7 +149,8 @@ module _ (g : Given) (m : Machine) (new : List ℕ) (space : ℕ) where
       let n = each _ (p .granted .numbers) in
       let r = each _ (p .granted .condition) in
       did-kept g m _ (λ e w. refl) _ []
-      (activity-accepted g m (p .accepted) u (context-below s u (n .1 .0)) (Running (domainOf t c)) (own-begun (p .accepted) c (n .0) (r .0)))
+      (activity-accepted g m (p .accepted) u (context-below s u (n .1 .0)) (Running (domainOf t c))
+      (own-begun (p .accepted) c (n .0) (r .0)))
       (λ e w he. is-same (record { place = refl; frame = λ f y h. refl; slot = refl; used = omega arith }))
 
   leave : (c : Ctc) → Performs (Leave c)
@@ -161,7 +165,8 @@ module _ (g : Given) (m : Machine) (new : List ℕ) (space : ℕ) where
       let r = each _ (p .granted .condition) in
       let to = Kept (domainOf t c) k in
       did-kept g m _ (λ e w. refl) _ _
-      (turned-accepted g m (p .accepted) c (context-below s c (p .granted .numbers)) to (own-begun (p .accepted) c (p .granted .numbers) (r .0)) (wordsIn 8 new))
+      (turned-accepted g m (p .accepted) c (context-below s c (p .granted .numbers)) to
+      (own-begun (p .accepted) c (p .granted .numbers) (r .0)) (wordsIn 8 new))
       (λ e w he. is-same (turned-stays g m (p .accepted) c to (wordsIn 8 new) e w))
 
   uncloak : (c : Ctc) (v : Gvpn) → Performs (Uncloak c v)
@@ -171,7 +176,8 @@ module _ (g : Given) (m : Machine) (new : List ℕ) (space : ℕ) where
       let r = each _ (p .granted .condition) in
       let d = domainOf t c in
       record {
-        accepted = uncloak-accepted g m (p .accepted) d v (own .within) (own .lives) (not-true (isPublic (placeOf s t d v)) (passes _ (r .1 .0)));
+        accepted =
+            uncloak-accepted g m (p .accepted) d v (own .within) (own .lives) (not-true (isPublic (placeOf s t d v)) (passes _ (r .1 .0)));
         fate = λ e w he. uncloak-fate g m (p .accepted) d v (own .within) (own .lives) e w he (sameNumber s d v e w) refl;
       }
 
@@ -194,13 +200,15 @@ module _ (g : Given) (m : Machine) (new : List ℕ) (space : ℕ) where
   unfolding perform row touching onPage does actOf numbersIn ownPlace
   read c v x p =
       let own = read-own g m c v (length new) space x p in
-      did-read g m (p .accepted) (ownFrame s t c v) (own .frame (p .granted .mapped)) (domainOf t c) v (own .within) (p .granted .signatures) _ (λ e w. refl) (spanBytes s (ownFrame s t c v) x)
+      did-read g m (p .accepted) (ownFrame s t c v) (own .frame (p .granted .mapped)) (domainOf t c) v (own .within)
+      (p .granted .signatures) _ (λ e w. refl) (spanBytes s (ownFrame s t c v) x)
 
   write : (c : Ctc) (v : Gvpn) (x : Span) → Performs (Write c v x)
   unfolding perform row touching onPage does actOf numbersIn ownPlace writes
   write c v x p =
       let own = write-own g m c v (length new) space x p in
-      did-write g m (p .accepted) (ownFrame s t c v) (own .frame (p .granted .mapped)) (domainOf t c) v (own .within) (p .granted .signatures) x new
+      did-write g m (p .accepted) (ownFrame s t c v) (own .frame (p .granted .mapped)) (domainOf t c) v (own .within)
+      (p .granted .signatures) x new
 
   pub performs : (e : Event) → Unrefused g m e (length new) space → Did g m (actOf (g .setup) (m .tables) e new) (perform g e new m)
   performs (Begin d c) = begin d c

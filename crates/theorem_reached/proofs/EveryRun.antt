@@ -1,4 +1,4 @@
--- What each event keeps holds after every run. Assumes nothing.
+-- What each event keeps holds after every list of events from the start.
 use mathlib.Core.Path.{_≡_, refl, sym, ap, _∙_, subst}
 use mathlib.Core.List.{List, [], _∷_}
 use Prim.Native.Nat.{ℕ, _*_, _≤_}
@@ -32,20 +32,23 @@ pub run-accepted : (g : Given) (frames store : List ℕ) (asks : List Ask) → s
     → Accepted g (after g (start g frames store) asks)
 run-accepted g frames store asks ok = after-accepted g asks (start g frames store) (start-accepted g frames store ok)
 
-after-sound : (g : Given) (asks : List Ask) (m : Machine) → T (sound (g .setup) (stateOf m)) → T (sound (g .setup) (stateOf (after g m asks)))
+after-sound : (g : Given) (asks : List Ask) (m : Machine) → T (sound (g .setup) (stateOf m))
+    → T (sound (g .setup) (stateOf (after g m asks)))
 unfolding after
 after-sound g [] m h = h
 after-sound g (a ∷ asks) m h = after-sound g asks _ (step-sound g (a .event) (a .new) (a .buffer) m h)
 
 pub run-sound : (g : Given) (frames store : List ℕ) (asks : List Ask) → T (sound (g .setup) (stateOf (after g (start g frames store) asks)))
 run-sound g frames store asks =
-    after-sound g asks (start g frames store) (subst (λ (x : State). T (sound (g .setup) x)) (sym (start-state g frames store)) (fresh-sound (g .setup)))
+    after-sound g asks (start g frames store)
+    (subst (λ (x : State). T (sound (g .setup) x)) (sym (start-state g frames store)) (fresh-sound (g .setup)))
 
-pub run-used : (g : Given) (frames store : List ℕ) (asks : List Ask) → (after g (start g frames store) asks) .tables .used ≤ g .setup .signatures
+pub run-used : (g : Given) (frames store : List ℕ) (asks : List Ask)
+    → (after g (start g frames store) asks) .tables .used ≤ g .setup .signatures
 unfolding sound
 run-used g frames store asks = leb→le _ _ ((each _ (run-sound g frames store asks)) .1 .0)
 
--- after a refused start nothing moves
+-- after a refused start nothing changes
 pub run-refused : (g : Given) (frames store : List ℕ) → startRefusal g frames store ≡ 10 → (asks : List Ask)
     → after g (start g frames store) asks ≡ start g frames store
 unfolding after refused
@@ -66,7 +69,8 @@ after-clean g d v h [] m clean = clean
 after-clean g d v h (a ∷ asks) m clean =
     after-clean g d v h asks _ (fate-clean (g .setup) d v m _ _ (step-fate g (a .event) (a .new) (a .buffer) m d v h) clean)
 
-pub start-public : (g : Given) (frames store : List ℕ) (d : Asid) (v : Gvpn) → placeOf (g .setup) ((start g frames store) .tables) d v ≡ Public
+pub start-public : (g : Given) (frames store : List ℕ) (d : Asid) (v : Gvpn)
+    → placeOf (g .setup) ((start g frames store) .tables) d v ≡ Public
 start-public g frames store d v =
     ap (λ (x : State). (getD (x .tables .pages) (pageNumber (g .setup) d v) publicPage) .place) (start-state g frames store)
     ∙ ap (λ r. r .place) (getD-fresh (maxDomains * maxPages) (pageNumber (g .setup) d v) publicPage)

@@ -1,5 +1,6 @@
--- What the moves of the rules leave in frames, slots and tables: the facts upon which secrecy and freshness stand, each of which
--- a slip in its rule makes false. They ask only for lengths and numbers. Assumes nothing.
+-- What single rules leave in frames and slots: a seal keeps the page's bytes in its slot, an unveil brings them back, a page that is
+-- cloaked
+-- is zero, the end of a domain leaves other frames. Secrecy and freshness rest on these facts, and a slip in a rule makes its fact false.
 use mathlib.Core.Path.{_≡_, refl, sym, ap, _∙_}
 use mathlib.Core.Logic.{_≢_}
 use mathlib.Core.List.{List, [], _∷_}
@@ -100,11 +101,13 @@ module _ (g : Given) (f : Gppn) (d : Asid) (v : Gvpn) (k : ℕ) (m : Machine) wh
   unfolding unveil
   unveil-compares b q = rw q
 
-module _ (s : Setup) (f : Gppn) (d : Asid) (v : Gvpn) (m : Machine) (hf : f .0 < s .frames) (frames : length (m .frames) ≡ s .frames * s .size) where
+module _ (s : Setup) (f : Gppn) (d : Asid) (v : Gvpn) (m : Machine) (hf : f .0 < s .frames)
+    (frames : length (m .frames) ≡ s .frames * s .size) where
   -- A page that is cloaked is zero.
   pub cloak-zeroes : frameBytes s f (cloaked s f d v m) ≡ zeros (s .size)
   unfolding cloaked
-  cloak-zeroes = part-same (s .size) (f .0) (zeros (s .size)) (m .frames) (length-zeros (s .size)) (part-fits (s .size) (f .0) (s .frames) hf frames)
+  cloak-zeroes =
+      part-same (s .size) (f .0) (zeros (s .size)) (m .frames) (length-zeros (s .size)) (part-fits (s .size) (f .0) (s .frames) hf frames)
 
 -- A page that is written is dirty.
 pub write-dirties : (f : Gppn) (w : Wear) → written (Clear f w) ≡ Clear f Dirty
@@ -144,11 +147,14 @@ module _ (s : Setup) (d : Asid) (j : ℕ) where
       let here : T (namesIn d (r .names)) → k < s .frames = λ t. rw add-zero at (within 0 t) in
       zero-missed rs (suc k) _ (length-one s d k (namesIn d (r .names)) _ x ∙ e) (within-rest r rs k within)
       (λ i t q. ne (suc i) t (add-suc k i ∙ sym (suc-add k i) ∙ q))
-      ∙ one-missed k _ x e (namesIn d (r .names)) (λ t. let w = whole-page (s .size) k x (part-fits (s .size) k (s .frames) (here t) e) in omega arith) here (λ t q. ne 0 t (add-zero k ∙ sym q))
+      ∙ one-missed k _ x e (namesIn d (r .names))
+      (λ t. let w = whole-page (s .size) k x (part-fits (s .size) k (s .frames) (here t) e) in omega arith) here
+      (λ t q. ne 0 t (add-zero k ∙ sym q))
 
-pub end-keeps : (s : Setup) (d : Asid) (m : Machine) → length (m .frames) ≡ s .frames * s .size → NamesWithin s d (m .tables .frames) 0 → (f : Gppn)
-    → namesIn d (namesOf (m .tables) f) ≡ false → frameBytes s f (ended s d m) ≡ frameBytes s f m
+pub end-keeps : (s : Setup) (d : Asid) (m : Machine) → length (m .frames) ≡ s .frames * s .size → NamesWithin s d (m .tables .frames) 0
+    → (f : Gppn) → namesIn d (namesOf (m .tables) f) ≡ false → frameBytes s f (ended s d m) ≡ frameBytes s f m
 unfolding ended
 end-keeps s d m frames within f e =
     zero-missed s d (f .0) (m .tables .frames) 0 (m .frames) frames within
-    (λ i t q. true≢false (sym (passes _ t) ∙ ap (λ (n : ℕ). namesIn d ((getD (m .tables .frames) n openFrame) .names)) (sym (zero-add i) ∙ q) ∙ e))
+    (λ i t q. true≢false (sym (passes _ t) ∙ ap (λ (n : ℕ). namesIn d ((getD (m .tables .frames) n openFrame) .names))
+    (sym (zero-add i) ∙ q) ∙ e))

@@ -1,4 +1,5 @@
--- What each file under Main.antt is for stands at its head.
+-- Main.antt holds the theorems. The files under it go from single rules, by single operations and events, to whole runs; each says at its
+-- head what it shows.
 pub mod FramesAndSlots
 pub mod SoundRecords
 pub mod SoundPages

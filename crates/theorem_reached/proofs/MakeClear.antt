@@ -1,5 +1,6 @@
--- Making a page Clear in a frame that names none, by unveiling it or by cloaking it; and filling a frame: what then stands in its
--- record and frame and in all others, and that the machine stays acceptable. Assumes nothing.
+-- Making a page Clear in a frame that names none, which unveiling and cloaking do, and filling a frame: what then stands in the page's
+-- record
+-- and frame and in all others, and that the machine stays acceptable.
 use mathlib.Core.Path.{_≡_, refl}
 use mathlib.Core.Logic.{_≢_}
 use mathlib.Core.List.{List}
@@ -46,7 +47,8 @@ none-clear s t agrees f none d v hd h w c q =
     nothing-page none (rw (same-frame h f q) at ((agrees .named d v h w (hd .domain) (hd .page) c) .1))
 
 -- a page Clear in a frame that named none
-module _ (s : Setup) (x : State) (sizes : Limited s) (h : Sound s x) (f : Gppn) (hf : f .0 < s .frames) (d : Asid) (v : Gvpn) (hd : Within s d v)
+module _ (s : Setup) (x : State) (sizes : Limited s) (h : Sound s x) (f : Gppn) (hf : f .0 < s .frames) (d : Asid) (v : Gvpn)
+    (hd : Within s d v)
     (w : Wear) (lives : T (not (isEmpty (lifeOf (x .tables) d)))) (none : namesOf (x .tables) f ≡ Nothing)
     (away : (k : Gppn) → T (isClearIn k (placeOf s (x .tables) d v)) → ⊥) (worn : T (wearSound (x .tables) w)) where
   abbrev pub enteredTables : Tables
@@ -81,7 +83,9 @@ module _ (s : Setup) (f : Gppn) (hf : f .0 < s .frames) (m : Machine) (long : le
   unfilled h ne = part-other (s .size) (f .0) new (m .frames) whole (part-fits (s .size) (f .0) (s .frames) hf long) (h .0) ne
 
 pub fill-accepted : (g : Given) (f : Gppn) (new : List ℕ) (m : Machine) → Accepted g m → Accepted g (fillFrame (g .setup) f new m)
-fill-accepted g f new m accepted = accepted-kept g m (fillFrame (g .setup) f new m) accepted (length-withPart (g .setup .size) (f .0) new (m .frames)) refl (accepted .looks .sound)
+fill-accepted g f new m accepted =
+    accepted-kept g m (fillFrame (g .setup) f new m) accepted (length-withPart (g .setup .size) (f .0) new (m .frames)) refl
+    (accepted .looks .sound)
 
 -- the machine with the page d, v Clear in frame f, which holds new; unveiled and cloaked are such
 abbrev pub entered : Setup → Gppn → Asid → Gvpn → Wear → List ℕ → ℕ → Machine → Machine
@@ -116,15 +120,20 @@ module _ (g : Given) (m : Machine) (f : Gppn) (d : Asid) (v : Gvpn) (w : Wear) (
   pub enter-accepted : Accepted g n
   enter-accepted =
       accepted-kept g m n (h .accepted) (length-withPart (s .size) (f .0) new (m .frames)) refl
-      (entered-sound s (stateOf m) (h .accepted .looks .sizes) (h .accepted .looks .sound) f (h .frame) d v (h .within) w (h .lives) (h .none) (h .away) (h .worn))
+      (entered-sound s (stateOf m) (h .accepted .looks .sizes) (h .accepted .looks .sound) f (h .frame) d v (h .within) w (h .lives)
+      (h .none) (h .away) (h .worn))
 
   pub enter-holds : Holds s (n .tables) f d v w
   enter-holds =
       record {
         frame = h .frame;
         within = h .within;
-        names = entered-names s (stateOf m) (h .accepted .looks .sizes) (h .accepted .looks .sound) f (h .frame) d v (h .within) w (h .lives) (h .none) (h .away) (h .worn);
-        place = entered-place s (stateOf m) (h .accepted .looks .sizes) (h .accepted .looks .sound) f (h .frame) d v (h .within) w (h .lives) (h .none) (h .away) (h .worn);
+        names =
+            entered-names s (stateOf m) (h .accepted .looks .sizes) (h .accepted .looks .sound) f (h .frame) d v (h .within) w (h .lives)
+            (h .none) (h .away) (h .worn);
+        place =
+            entered-place s (stateOf m) (h .accepted .looks .sizes) (h .accepted .looks .sound) f (h .frame) d v (h .within) w (h .lives)
+            (h .none) (h .away) (h .worn);
       }
 
   pub enter-frame : frameBytes s f n ≡ new

@@ -1,4 +1,5 @@
--- What is known of the context that acts and of its own page: its domain is begun, and its frame is within the setup. Assumes nothing.
+-- What is known of the context that acts and of its own page, where no check refuses the event: its domain is begun, the page's frame is
+-- within the setup, and a page that is to be cloaked is Public with a frame that names none, once that frame is sealed.
 use mathlib.Core.Path.{_∙_, _≡_, refl}
 use mathlib.Core.List.{[], _∷_}
 use mathlib.Core.Bool.{not}
@@ -34,7 +35,8 @@ use Rattle.theorem_reached.proofs.FramesAndSlots.{Within}
 
 -- a running context's domain and own pages
 module _ (s : Setup) (t : Tables) (agrees : Agreed s t) (c : Ctc) (hc : c .0 < s .contexts) where
-  home-at : (a : Activity) → activityOf t c ≡ a → T (isRunning a) → ((domainWhere a) .0 < s .domains) × T (not (isEmpty (lifeOf t (domainWhere a))))
+  home-at : (a : Activity) → activityOf t c ≡ a → T (isRunning a)
+      → ((domainWhere a) .0 < s .domains) × T (not (isEmpty (lifeOf t (domainWhere a))))
   home-at Free e h = absurd h
   home-at (Running d) e h = agrees .inhabited c d hc e
   home-at (Kept d k) e h = absurd h
@@ -43,7 +45,8 @@ module _ (s : Setup) (t : Tables) (agrees : Agreed s t) (c : Ctc) (hc : c .0 < s
   unfolding running
   home h = home-at (activityOf t c) refl h
 
-  mapped-in : (d : Asid) (v : Gvpn) → Within s d v → (y : Mapping) → mappingOf s t d v ≡ y → T (not (isUnmapped y)) → (frameWhere y) .0 < s .frames
+  mapped-in : (d : Asid) (v : Gvpn) → Within s d v → (y : Mapping) → mappingOf s t d v ≡ y → T (not (isUnmapped y))
+      → (frameWhere y) .0 < s .frames
   mapped-in d v hd Unmapped e h = absurd h
   mapped-in d v hd (Mapped f) e h = agrees .mapped d v f (hd .domain) (hd .page) e
 
@@ -57,7 +60,8 @@ pub record OwnPage (s : Setup) (t : Tables) (c : Ctc) (v : Gvpn) : Type 0 where
   pub lives : T (not (isEmpty (lifeOf t (domainOf t c))))
   pub frame : T (ownMapped s t c v) → (ownFrame s t c v) .0 < s .frames
 
-own-page : (s : Setup) (t : Tables) → Agreed s t → (c : Ctc) (v : Gvpn) → T (allOf (contextIn s c ∷ pageIn s v ∷ [])) → T (running t c) → OwnPage s t c v
+own-page : (s : Setup) (t : Tables) → Agreed s t → (c : Ctc) (v : Gvpn) → T (allOf (contextIn s c ∷ pageIn s v ∷ [])) → T (running t c)
+    → OwnPage s t c v
 own-page s t agrees c v numbers r =
     let n = each _ numbers in
     let hc = context-below s c (n .0) in
@@ -72,15 +76,18 @@ module _ (g : Given) (m : Machine) (c : Ctc) (v : Gvpn) (new space : ℕ) where
 
   pub uncloak-own : Unrefused g m (Uncloak c v) new space → OwnPage (g .setup) (m .tables) c v
   unfolding row acting numbersIn
-  uncloak-own p = own-page (g .setup) (m .tables) (p .accepted .looks .agrees) c v (p .granted .numbers) ((each _ (p .granted .condition)) .0)
+  uncloak-own p =
+      own-page (g .setup) (m .tables) (p .accepted .looks .agrees) c v (p .granted .numbers) ((each _ (p .granted .condition)) .0)
 
   pub read-own : (x : Span) → Unrefused g m (Read c v x) new space → OwnPage (g .setup) (m .tables) c v
   unfolding row touching onPage numbersIn
-  read-own x p = own-page (g .setup) (m .tables) (p .accepted .looks .agrees) c v (p .granted .numbers) ((each _ (p .granted .condition)) .0)
+  read-own x p =
+      own-page (g .setup) (m .tables) (p .accepted .looks .agrees) c v (p .granted .numbers) ((each _ (p .granted .condition)) .0)
 
   pub write-own : (x : Span) → Unrefused g m (Write c v x) new space → OwnPage (g .setup) (m .tables) c v
   unfolding row touching onPage numbersIn
-  write-own x p = own-page (g .setup) (m .tables) (p .accepted .looks .agrees) c v (p .granted .numbers) ((each _ (p .granted .condition)) .0)
+  write-own x p =
+      own-page (g .setup) (m .tables) (p .accepted .looks .agrees) c v (p .granted .numbers) ((each _ (p .granted .condition)) .0)
 
   -- that context is Running
   pub cloak-runs : Unrefused g m (Cloak c v) new space → T (running (m .tables) c)

@@ -1,5 +1,6 @@
 -- What can become of a page in an event, and which of it each event does. The page's bytes stay as they are, though they may move between
--- its frame and its slot; or it is cloaked, made Public or written. All that holds of a page in every reached state is shown by these cases.
+-- its frame and its slot; or it is cloaked, made Public or written. All that holds of a page in every reached state is shown by cases on
+-- these.
 use mathlib.Core.Path.{_≡_, sym, ap, _∙_, refl}
 use mathlib.Core.List.{List, [], _∷_}
 use mathlib.Core.Bool.{Bool, cond, true, false, true≢false}
@@ -30,7 +31,7 @@ use Rattle.theorem_reached.proofs.SealFrames.{Enough, Fits, Room, room-
 use Rattle.theorem_reached.proofs.FramesAndSlots.{Within}
 use Rattle.theorem_reached.proofs.SealPage.{Holds, Stays, same-stays, sealed-place, sealed-slot, sealed-used, sealed-stays}
 
--- the page's bytes are let be, or moved about
+-- the page's bytes stay as they are, where they were or moved between frame and slot
 pub data Quiet (s : Setup) (d : Asid) (v : Gvpn) : Machine → Machine → Type 0 where
   is-same : {m n : Machine} → Stays s d v m n → Quiet s d v m n
   is-sealed : {m n : Machine} (f : Gppn) (w : Wear) → placeOf s (m .tables) d v ≡ Clear f w
@@ -57,7 +58,7 @@ pub data Fate (s : Setup) (d : Asid) (v : Gvpn) (m n : Machine) : Act → Type 0
 unfoldable pub sameNumber : Setup → Asid → Gvpn → Asid → Gvpn → Bool
 sameNumber s d v e w = eqb (pageNumber s d v) (pageNumber s e w)
 
--- sealing moves bytes about
+-- so they do where frames are sealed
 module _ (g : Given) (d : Asid) (v : Gvpn) (hd : Within (g .setup) d v) where
   pub seal-quiet : (f : Gppn) (m : Machine) → Accepted g m → f .0 < g .setup .frames → Room g f m → Quiet (g .setup) d v m (seal g f m)
   seal-quiet f m accepted hf room =
@@ -69,11 +70,13 @@ module _ (g : Given) (d : Asid) (v : Gvpn) (hd : Within (g .setup) d v) where
       at e x w held (yes p) =
           let k = number-one (g .setup) d e v x (hd .page) (held .within .page) p in
           let room′ = room-held g f m e x w room held in
-          rw (k .0, k .1) (is-sealed f w (held .place) (sealed-place g f e x w m accepted held room′) (sealed-slot g f e x w m accepted held room′)
+          rw (k .0, k .1) (is-sealed f w (held .place) (sealed-place g f e x w m accepted held room′)
+          (sealed-slot g f e x w m accepted held room′)
           (sealed-used g f e x w m accepted held room′))
       at e x w held (no ne) = is-same (sealed-stays g f e x w m accepted held (room-held g f m e x w room held) d v hd ne)
 
-  pub sealAll-quiet : (fs : List Gppn) (m : Machine) → Accepted g m → Fits (g .setup) fs → Enough g fs m → Quiet (g .setup) d v m (sealAll g fs m)
+  pub sealAll-quiet : (fs : List Gppn) (m : Machine) → Accepted g m → Fits (g .setup) fs → Enough g fs m
+      → Quiet (g .setup) d v m (sealAll g fs m)
   unfolding sealAll
   sealAll-quiet [] m accepted fit enough = is-same (same-stays (g .setup) d v m)
   sealAll-quiet (f ∷ fs) m accepted fit enough =
@@ -101,8 +104,9 @@ module _ (s : Setup) (d : Asid) (v : Gvpn) where
   fate-clean m n a (is-dropped p) c f k e = let z : _≡_ {A = ℕ} 0 1 = cc in absurd (omega arith)
   fate-clean m n a (is-put o h w at new q was p b) c f k e = let z : _≡_ {A = ℕ} 0 1 = cc in absurd (omega arith)
 
--- moving its bytes about makes no page Public, or private
-pub quiet-public : (s : Setup) (d : Asid) (v : Gvpn) (m n : Machine) → Quiet s d v m n → isPublic (placeOf s (n .tables) d v) ≡ isPublic (placeOf s (m .tables) d v)
+-- a page whose bytes stay as they are is Public or private as before
+pub quiet-public : (s : Setup) (d : Asid) (v : Gvpn) (m n : Machine) → Quiet s d v m n
+    → isPublic (placeOf s (n .tables) d v) ≡ isPublic (placeOf s (m .tables) d v)
 quiet-public s d v m n (is-same h) = ap isPublic (h .place)
 quiet-public s d v m n (is-sealed h w a b slot more) = ap isPublic b ∙ sym (ap isPublic a)
 quiet-public s d v m n (is-unveiled h j a b frame slot more) = ap isPublic b ∙ sym (ap isPublic a)

@@ -1,4 +1,5 @@
--- Reading and writing a page that is brought in: what becomes of every page. Assumes nothing.
+-- Reading and writing a page at the frame to which it is mapped: the machine stays acceptable, the page's bytes stay or have new ones laid
+-- over them, and every other page's bytes stay.
 use mathlib.Core.Path.{_≡_, refl, sym, ap, _∙_, subst}
 use mathlib.Core.List.{List, []}
 use mathlib.Core.Bool.{Bool, true, false, cond}
@@ -42,7 +43,7 @@ module _ (g : Given) (m : Machine) where
   abbrev t : Tables
   t = m .tables
 
-  -- done, with every page's bytes let be or moved about
+  -- done, and every page's bytes stay as they are
   pub did-kept : (act : Asid → Gvpn → Act) → ((d : Asid) (v : Gvpn) → act d v ≡ kept) → (n : Machine) (bytes : List ℕ) → Accepted g n
       → ((d : Asid) (v : Gvpn) → Within s d v → Quiet s d v m n) → Did g m act (done n bytes)
   unfolding done
@@ -60,8 +61,8 @@ module _ (g : Given) (m : Machine) where
     pub sealed-first-quiet : (e : Asid) (w : Gvpn) → Within s e w → Quiet s e w m q
     sealed-first-quiet e w he = sealAll-quiet g e w he _ m accepted (first-fits g m accepted f hf d v hd) enough
 
-    pub opened-quiet : (k : ℕ) → placeOf s (q .tables) d v ≡ Sealed k → namesOf (q .tables) f ≡ Nothing → (e : Asid) (w : Gvpn) → Within s e w
-        → Quiet s e w m (unveiled g f d v k q)
+    pub opened-quiet : (k : ℕ) → placeOf s (q .tables) d v ≡ Sealed k → namesOf (q .tables) f ≡ Nothing → (e : Asid) (w : Gvpn)
+        → Within s e w → Quiet s e w m (unveiled g f d v k q)
     unfolding unveiled unveiledTables
     opened-quiet k place none e w he = and-then (sealed-first-quiet e w he) (at (ℕ-discrete (pageNumber s e w) (pageNumber s d v)))
       where
@@ -72,8 +73,10 @@ module _ (g : Given) (m : Machine) where
         at (yes p) =
             let r = number-one s e d w v (he .page) (hd .page) p in
             rw (r .0, r .1)
-            (is-unveiled {m = q} {n = unveiled g f d v k q} f k place ((enter-holds g q f d v (Clean k) (slotBytes s d v q) enters (q .unveils + 1)) .place)
-            (unveil-restores g f d v k q hf (sealed-first-accepted .looks .frames) hd (sealed-first-accepted .looks .store)) refl (omega arith))
+            (is-unveiled {m = q} {n = unveiled g f d v k q} f k place
+            ((enter-holds g q f d v (Clean k) (slotBytes s d v q) enters (q .unveils + 1)) .place)
+            (unveil-restores g f d v k q hf (sealed-first-accepted .looks .frames) hd (sealed-first-accepted .looks .store)) refl
+            (omega arith))
         at (no ne) = is-same (enter-stays g q f d v (Clean k) (slotBytes s d v q) enters (q .unveils + 1) e w he ne)
 
     did-failed : (act : Asid → Gvpn → Act) → Did g m act (failed (onTables (withLife d Stopped) q))
@@ -81,16 +84,20 @@ module _ (g : Given) (m : Machine) where
     did-failed act =
         record {
           accepted = stopped-accepted g q sealed-first-accepted f hf d v hd;
-          fate = λ e w he. is-kept (and-then (sealed-first-quiet e w he) (is-same (stopped-stays g q sealed-first-accepted f hf d v hd e w)));
+          fate =
+              λ e w he. is-kept (and-then (sealed-first-quiet e w he) (is-same (stopped-stays g q sealed-first-accepted f hf d v hd e w)));
         }
 
     pub did-read : (act : Asid → Gvpn → Act) → ((e : Asid) (w : Gvpn) → act e w ≡ kept) → (bytes : Machine → List ℕ)
         → Did g m act (andThen (bringIn g f d v q) (λ n. done n (bytes n)))
     unfolding andThen done failed
     did-read act none bytes =
-        bring-in-either g q sealed-first-accepted f hf d v hd (touch-case g m accepted f hf d v hd enough) (λ e. Did g m act (andThen e (λ n. done n (bytes n))))
-        (λ _ _. did-kept act none q (bytes q) sealed-first-accepted sealed-first-quiet) (λ _ _. did-kept act none q (bytes q) sealed-first-accepted sealed-first-quiet)
-        (λ k place free _. did-kept act none _ _ (unveiled-accepted g q sealed-first-accepted f hf d v hd k place free) (opened-quiet k place free))
+        bring-in-either g q sealed-first-accepted f hf d v hd (touch-case g m accepted f hf d v hd enough)
+        (λ e. Did g m act (andThen e (λ n. done n (bytes n))))
+        (λ _ _. did-kept act none q (bytes q) sealed-first-accepted sealed-first-quiet)
+        (λ _ _. did-kept act none q (bytes q) sealed-first-accepted sealed-first-quiet)
+        (λ k place free _. did-kept act none _ _ (unveiled-accepted g q sealed-first-accepted f hf d v hd k place free)
+        (opened-quiet k place free))
         (λ _ _ _ _. did-failed act)
 
     unfoldable pub writes : Span → List ℕ → Asid → Gvpn → Act
@@ -115,7 +122,8 @@ module _ (g : Given) (m : Machine) where
             (is-put o f y (x .off) new (moved d v hd) (holds .place) (stored-place g o o-accepted f hf x new d v y holds)
             (stored-frame g o o-accepted f hf x new d v y holds))
         at e w he false p =
-            is-kept (and-then (moved e w he) (is-same (stored-stays g o o-accepted f hf x new d v y holds e w he (λ r. eqb-false _ _ p (sym r)))))
+            is-kept (and-then (moved e w he)
+            (is-same (stored-stays g o o-accepted f hf x new d v y holds e w he (λ r. eqb-false _ _ p (sym r)))))
 
     -- stored to the frame of a Public page
     did-shared : (x : Span) (new : List ℕ) → placeOf s (q .tables) d v ≡ Public → namesOf (q .tables) f ≡ Nothing
@@ -141,7 +149,8 @@ module _ (g : Given) (m : Machine) where
         (λ shared none. did-shared x new shared none)
         (λ y holds. did-put x new (was (ap isPublic (holds .place))) q sealed-first-accepted sealed-first-quiet y holds)
         (λ k place none _.
-        did-put x new (was (ap isPublic place)) (unveiled g f d v k q) (unveiled-accepted g q sealed-first-accepted f hf d v hd k place none)
+        did-put x new (was (ap isPublic place)) (unveiled g f d v k q)
+        (unveiled-accepted g q sealed-first-accepted f hf d v hd k place none)
         (opened-quiet k place none) (Clean k) (opened-holds g q sealed-first-accepted f hf d v hd k place none))
         (λ _ _ _ _. did-failed (writes x new))
       where

@@ -1,5 +1,5 @@
 -- Sealing what is Clear in one frame, and in a list of frames: the machine stays acceptable, the signatures counted beforehand
--- suffice, and no more are taken than frames are listed. Assumes nothing.
+-- suffice, and no more are taken than frames are listed.
 use mathlib.Core.Path.{_≡_, refl, sym, ap, _∙_}
 use mathlib.Core.List.{List, [], _∷_}
 use Prim.Native.Nat.{ℕ, _+_, _≤_, _<_}
@@ -33,8 +33,8 @@ pub seal-either : (g : Given) (f : Gppn) (m : Machine) → Accepted g m → f .0
 unfolding seal sealNamed sealAt
 seal-either g f m accepted hf P none one = named (namesOf (m .tables) f) refl
   where
-    placed : (d : Asid) (v : Gvpn) → namesOf (m .tables) f ≡ Page d v → Within (g .setup) d v → (p : Place) → placeOf (g .setup) (m .tables) d v ≡ p
-        → T (isClearIn f p) → P (sealAt g f d v p m)
+    placed : (d : Asid) (v : Gvpn) → namesOf (m .tables) f ≡ Page d v → Within (g .setup) d v → (p : Place)
+        → placeOf (g .setup) (m .tables) d v ≡ p → T (isClearIn f p) → P (sealAt g f d v p m)
     placed d v n h Public e c = absurd c
     placed d v n h (Clear k w) e c =
         let q : k ≡ f = same-frame k f (eqb→eq (k .0) (f .0) c) in
@@ -73,7 +73,8 @@ unfolding seal sealNamed sealAt
 seal-held g f m d v w h = rw (h .names, h .place)
 
 -- what is counted for the page that a frame holds is what sealing it takes
-takes-held : (s : Setup) (t : Tables) (f : Gppn) (d : Asid) (v : Gvpn) (w : Wear) → Holds s t f d v w → takesNamed s t (namesOf t f) ≡ takes w
+takes-held : (s : Setup) (t : Tables) (f : Gppn) (d : Asid) (v : Gvpn) (w : Wear) → Holds s t f d v w
+    → takesNamed s t (namesOf t f) ≡ takes w
 unfolding takesNamed takesAt
 takes-held s t f d v w h = rw (h .names, h .place)
 
@@ -102,7 +103,9 @@ takes-one (Clean k) = omega arith
 
 module _ (g : Given) (f : Gppn) (m : Machine) (accepted : Accepted g m) (hf : f .0 < g .setup .frames) (room : Room g f m) where
   pub seal-accepted : Accepted g (seal g f m)
-  seal-accepted = seal-either g f m accepted hf (Accepted g) (λ _. accepted) (λ d v w h. sealed-accepted g f d v w m accepted h (room-held g f m d v w room h))
+  seal-accepted =
+      seal-either g f m accepted hf (Accepted g) (λ _. accepted)
+      (λ d v w h. sealed-accepted g f d v w m accepted h (room-held g f m d v w room h))
 
   pub seal-names : namesOf ((seal g f m) .tables) f ≡ Nothing
   seal-names =
@@ -124,7 +127,8 @@ module _ (g : Given) (f : Gppn) (m : Machine) (accepted : Accepted g m) (hf : f 
 
   -- no other frame's page needs more than before
   seal-takes : (h : Gppn) → h .0 < g .setup .frames
-      → takesNamed (g .setup) ((seal g f m) .tables) (namesOf ((seal g f m) .tables) h) ≤ takesNamed (g .setup) (m .tables) (namesOf (m .tables) h)
+      → takesNamed (g .setup) ((seal g f m) .tables) (namesOf ((seal g f m) .tables) h) ≤ takesNamed (g .setup) (m .tables)
+      (namesOf (m .tables) h)
   unfolding takesNamed
   seal-takes h hh =
       seal-either g f m accepted hf
@@ -135,7 +139,8 @@ module _ (g : Given) (f : Gppn) (m : Machine) (accepted : Accepted g m) (hf : f 
       s = g .setup
 
       at : (d : Asid) (v : Gvpn) (w : Wear) → Holds s (m .tables) f d v w → Dec (h .0 ≡ f .0)
-          → takesNamed s ((sealPage g f d v w m) .tables) (namesOf ((sealPage g f d v w m) .tables) h) ≤ takesNamed s (m .tables) (namesOf (m .tables) h)
+          → takesNamed s ((sealPage g f d v w m) .tables) (namesOf ((sealPage g f d v w m) .tables) h) ≤ takesNamed s (m .tables)
+          (namesOf (m .tables) h)
       at d v w held (yes q) =
           let fit = room-held g f m d v w room held in
           rw (same-frame h f q, sealed-names g f d v w m accepted held fit) (omega arith)
@@ -159,7 +164,8 @@ pub room-first : (g : Given) (f : Gppn) (fs : List Gppn) (m : Machine) → Enoug
 unfolding Room needed
 room-first g f fs m h = omega arith
 
-module _ (g : Given) (f : Gppn) (fs : List Gppn) (m : Machine) (accepted : Accepted g m) (fit : Fits (g .setup) (f ∷ fs)) (enough : Enough g (f ∷ fs) m) where
+module _ (g : Given) (f : Gppn) (fs : List Gppn) (m : Machine) (accepted : Accepted g m) (fit : Fits (g .setup) (f ∷ fs))
+    (enough : Enough g (f ∷ fs) m) where
   pub first-accepted : Accepted g (seal g f m)
   first-accepted = seal-accepted g f m accepted (fit .0) (room-first g f fs m enough)
 
@@ -177,7 +183,8 @@ module _ (g : Given) (f : Gppn) (fs : List Gppn) (m : Machine) (accepted : Accep
       let room = room-first g f fs m enough in
       omega (arith, seal-used g f m accepted (fit .0) room, seal-one g f m accepted (fit .0) room)
 
-pub sealAll-accepted : (g : Given) (fs : List Gppn) (m : Machine) → Accepted g m → Fits (g .setup) fs → Enough g fs m → Accepted g (sealAll g fs m)
+pub sealAll-accepted : (g : Given) (fs : List Gppn) (m : Machine) → Accepted g m → Fits (g .setup) fs → Enough g fs m
+    → Accepted g (sealAll g fs m)
 unfolding sealAll
 sealAll-accepted g [] m accepted fit enough = accepted
 sealAll-accepted g (f ∷ fs) m accepted fit enough =
@@ -189,7 +196,8 @@ pub sealAll-used : (g : Given) (fs : List Gppn) (m : Machine) → Accepted g m �
 unfolding sealAll
 sealAll-used g [] m accepted fit enough = omega arith
 sealAll-used g (f ∷ fs) m accepted fit enough =
-    let rest = sealAll-used g fs (seal g f m) (first-accepted g f fs m accepted fit enough) (fit .1) (room-rest g f fs m accepted fit enough) in
+    let rest =
+    sealAll-used g fs (seal g f m) (first-accepted g f fs m accepted fit enough) (fit .1) (room-rest g f fs m accepted fit enough) in
     let one = first-one g f fs m accepted fit enough in
     let few = first-few g f fs m accepted fit enough in
     omega arith

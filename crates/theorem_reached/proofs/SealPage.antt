@@ -1,5 +1,5 @@
--- Sealing the page Clear in a frame: what then stands in its record, its slot, its frame and in all others, and that the machine
--- stays acceptable. Assumes nothing.
+-- Sealing the page that is Clear in a frame: what then stands in its record, its slot, its frame and in all others, and that the machine
+-- stays acceptable.
 use mathlib.Core.Path.{_≡_, refl, sym, ap, _∙_}
 use mathlib.Core.Logic.{_≢_}
 use Prim.Native.Nat.{ℕ, _+_, _≤_, _<_}
@@ -93,7 +93,9 @@ module _ (g : Given) (f : Gppn) (d : Asid) (v : Gvpn) (w : Wear) (m : Machine) (
   -- its own record, slot and frame
   pub sealed-place : placeOf s (n .tables) d v ≡ Sealed (sealedWith (m .tables .used) w)
   unfolding sealPage sealedTables
-  sealed-place = place-same s (m .tables) d v (number-long s (stateOf m) (accepted .looks .sizes) (accepted .looks .sound) d v (holds .within .domain) (holds .within .page)) _
+  sealed-place =
+      place-same s (m .tables) d v
+      (number-long s (stateOf m) (accepted .looks .sizes) (accepted .looks .sound) d v (holds .within .domain) (holds .within .page)) _
 
   pub sealed-slot : slotBytes s d v n ≡ frameBytes s f m
   sealed-slot = seal-keeps-bytes g f d v w m (holds .frame) (accepted .looks .frames) (holds .within) (accepted .looks .store)
@@ -103,7 +105,8 @@ module _ (g : Given) (f : Gppn) (d : Asid) (v : Gvpn) (w : Wear) (m : Machine) (
 
   pub sealed-names : namesOf (n .tables) f ≡ Nothing
   unfolding sealPage sealedTables
-  sealed-names = names-same (m .tables) f Nothing (omega (arith, accepted .looks .shapes .frames, accepted .looks .sizes .frames, holds .frame))
+  sealed-names =
+      names-same (m .tables) f Nothing (omega (arith, accepted .looks .shapes .frames, accepted .looks .sizes .frames, holds .frame))
 
   -- and the others'
   pub others-place : (e : Asid) (x : Gvpn) → pageNumber s e x ≢ pageNumber s d v → placeOf s (n .tables) e x ≡ placeOf s (m .tables) e x
@@ -119,7 +122,8 @@ module _ (g : Given) (f : Gppn) (d : Asid) (v : Gvpn) (w : Wear) (m : Machine) (
   pub others-frame : (h : Gppn) → h .0 ≢ f .0 → frameBytes s h n ≡ frameBytes s h m
   unfolding sealPage
   others-frame h ne =
-      part-other (s .size) (f .0) _ (m .frames) filled-whole (part-fits (s .size) (f .0) (s .frames) (holds .frame) (accepted .looks .frames)) (h .0) ne
+      part-other (s .size) (f .0) _ (m .frames) filled-whole
+      (part-fits (s .size) (f .0) (s .frames) (holds .frame) (accepted .looks .frames)) (h .0) ne
 
   pub others-names : (h : Gppn) → h .0 ≢ f .0 → namesOf (n .tables) h ≡ namesOf (m .tables) h
   unfolding sealPage sealedTables
@@ -141,9 +145,12 @@ module _ (g : Given) (f : Gppn) (d : Asid) (v : Gvpn) (w : Wear) (m : Machine) (
   pub sealed-accepted : Accepted g n
   unfolding sealPage sealedTables placeSound namesSound
   sealed-accepted =
-      accepted-kept g m n accepted (length-withPart (s .size) (f .0) _ (m .frames)) (length-withPart (s .size) (pageNumber s d v) _ (m .store))
-      (moved-sound s (stateOf m) (accepted .looks .sizes) (accepted .looks .sound) d v (holds .within .domain) (holds .within .page) f (holds .frame)
-      (owned-lives s (m .tables) d v _ (accepted .looks .sound .page d v (holds .within .domain) (holds .within .page)) (rw (holds .place) tt))
+      accepted-kept g m n accepted (length-withPart (s .size) (f .0) _ (m .frames))
+      (length-withPart (s .size) (pageNumber s d v) _ (m .store))
+      (moved-sound s (stateOf m) (accepted .looks .sizes) (accepted .looks .sound) d v (holds .within .domain) (holds .within .page) f
+      (holds .frame)
+      (owned-lives s (m .tables) d v _ (accepted .looks .sound .page d v (holds .within .domain) (holds .within .page))
+      (rw (holds .place) tt))
       (λ h c. clear-in f h w _ (holds .place) c)
       (λ e x q.
       let names = holds .names in

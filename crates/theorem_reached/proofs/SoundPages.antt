@@ -1,5 +1,5 @@
 -- Changes of one page's record, with the frame in which it is Clear, that keep a state sound: a page that is mapped, sealed,
--- unveiled, cloaked, uncloaked or marked dirty. Assumes nothing.
+-- unveiled, cloaked, uncloaked or marked dirty.
 use mathlib.Core.Path.{_≡_, refl, ap, _∙_}
 use mathlib.Core.Logic.{_≢_}
 use mathlib.Core.List.{List, [], _∷_}
@@ -65,13 +65,14 @@ module _ (s : Setup) (t : Tables) (d : Asid) (v : Gvpn) (r : PageRecord) where
       go false p h n = tt
 
 -- the page that a frame names is within the sizes
-pub named-within : (s : Setup) (t : Tables) (f : Gppn) (d : Asid) (v : Gvpn) → T (namesSound s t f (Page d v)) → (d .0 < s .domains) × (v .0 < s .pages)
+pub named-within : (s : Setup) (t : Tables) (f : Gppn) (d : Asid) (v : Gvpn) → T (namesSound s t f (Page d v))
+    → (d .0 < s .domains) × (v .0 < s .pages)
 unfolding namesSound domainIn pageIn
 named-within s t f d v h = let e = each _ h in (ltb→lt _ _ (e .0), ltb→lt _ _ (e .1 .0))
 
 -- another page's place
-pub place-other : (s : Setup) (t : Tables) (d : Asid) (v : Gvpn) (r : PageRecord) (e : Asid) (w : Gvpn) → pageNumber s e w ≢ pageNumber s d v
-    → placeOf s (withPage s d v r t) e w ≡ placeOf s t e w
+pub place-other : (s : Setup) (t : Tables) (d : Asid) (v : Gvpn) (r : PageRecord) (e : Asid) (w : Gvpn)
+    → pageNumber s e w ≢ pageNumber s d v → placeOf s (withPage s d v r t) e w ≡ placeOf s t e w
 place-other s t d v r e w ne = ap (λ (p : PageRecord). p .place) (page-other s t d v r e w ne)
 
 -- the tables with another record for one page, other frames' records, and another used count
@@ -85,7 +86,8 @@ rewritten s d v r frames used t =
       used = used;
     }
 
-module _ (s : Setup) (x : State) (sizes : Limited s) (h : Sound s x) (d : Asid) (v : Gvpn) (hd : d .0 < s .domains) (hv : v .0 < s .pages) where
+module _ (s : Setup) (x : State) (sizes : Limited s) (h : Sound s x) (d : Asid) (v : Gvpn) (hd : d .0 < s .domains)
+    (hv : v .0 < s .pages) where
   pub number-long : pageNumber s d v < length (x .tables .pages)
   number-long = omega (arith, h .shape .pages, number-within s d v hv maxDomains maxPages (sizes .domains) (sizes .pages) hd)
 
@@ -104,8 +106,7 @@ module _ (s : Setup) (x : State) (sizes : Limited s) (h : Sound s x) (d : Asid) 
         → T (ownedSound s (rewritten s d v r frames used (x .tables)) d v r)
         → ((e : Asid) (w : Gvpn) (f : Gppn) (y : Wear) → e .0 < s .domains → w .0 < s .pages → pageNumber s e w ≢ pageNumber s d v
         → placeOf s (x .tables) e w ≡ Clear f y → namesOf (x .tables) f ≡ Page e w
-        → namesOf (rewritten s d v r frames used (x .tables)) f ≡ Page e w)
-        → ((f : Gppn) → f .0 < s .frames
+        → namesOf (rewritten s d v r frames used (x .tables)) f ≡ Page e w) → ((f : Gppn) → f .0 < s .frames
         → T (namesSound s (rewritten s d v r frames used (x .tables)) f (namesOf (rewritten s d v r frames used (x .tables)) f)))
         → ((f : Gppn) → s .frames ≤ f .0 → T (namesNone (namesOf (rewritten s d v r frames used (x .tables)) f)))
         → Sound s (record { tables = rewritten s d v r frames used (x .tables); saved = x .saved })
@@ -113,7 +114,14 @@ module _ (s : Setup) (x : State) (sizes : Limited s) (h : Sound s x) (d : Asid) 
     rewritten-sound long more fit own others names past =
         let o = h .shape in
         record {
-          shape = record { domains = o .domains; contexts = o .contexts; saved = o .saved; pages = rw length-set (o .pages); frames = long ∙ o .frames };
+          shape =
+              record {
+                domains = o .domains;
+                contexts = o .contexts;
+                saved = o .saved;
+                pages = rw length-set (o .pages);
+                frames = long ∙ o .frames;
+              };
           used = fit;
           domain-past = h .domain-past;
           context = λ c hc. activity-kept s t u (λ d l. l) (activityOf t c) (h .context c hc);
@@ -138,14 +146,16 @@ module _ (s : Setup) (x : State) (sizes : Limited s) (h : Sound s x) (d : Asid) 
             (owned-kept s t u more e w (pageOf s t e w) (λ l. l) (λ f y c n. others e w f y he hw ne c n) (h .page e w he hw))
 
 -- a page's record alone: its frame, if it is Clear, stays
-module _ (s : Setup) (x : State) (sizes : Limited s) (h : Sound s x) (d : Asid) (v : Gvpn) (hd : d .0 < s .domains) (hv : v .0 < s .pages) where
+module _ (s : Setup) (x : State) (sizes : Limited s) (h : Sound s x) (d : Asid) (v : Gvpn) (hd : d .0 < s .domains)
+    (hv : v .0 < s .pages) where
   pub replaced-sound : (r : PageRecord) → T (ownedSound s (x .tables) d v r)
       → ((f : Gppn) → T (isClearIn f (placeOf s (x .tables) d v)) → T (isClearIn f (r .place)))
       → Sound s (record { tables = rewritten s d v r (x .tables .frames) (x .tables .used) (x .tables); saved = x .saved })
   replaced-sound r own stays =
       rewritten-sound s x sizes h d v hd hv r (t .frames) (t .used) refl (omega arith) (h .used)
       (owned-kept s t u (omega arith) d v r (λ l. l) (λ f w _ n. n) own) (λ e w f y _ _ _ _ n. n)
-      (λ f hf. names-kept s t u f (namesOf t f) (λ e w q c. at f hf e w q c (ℕ-discrete (pageNumber s e w) (pageNumber s d v))) (h .frame f hf))
+      (λ f hf. names-kept s t u f (namesOf t f) (λ e w q c. at f hf e w q c (ℕ-discrete (pageNumber s e w) (pageNumber s d v)))
+      (h .frame f hf))
       (h .frame-past)
     where
       t : Tables
@@ -159,7 +169,8 @@ module _ (s : Setup) (x : State) (sizes : Limited s) (h : Sound s x) (d : Asid) 
       at f hf e w q c (yes p) =
           let b = named-within s t f e w (rw q at (h .frame f hf)) in
           let k = number-one s e d w v (b .1) hv p in
-          let now : placeOf s u d v ≡ r .place = ap (λ (p : PageRecord). p .place) (page-same s t d v r (number-long s x sizes h d v hd hv)) in
+          let now : placeOf s u d v ≡ r .place =
+          ap (λ (p : PageRecord). p .place) (page-same s t d v r (number-long s x sizes h d v hd hv)) in
           rw (k .0, k .1, now) (stays f (rw (k .0, k .1) at c))
       at f hf e w q c (no ne) = rw (place-other s t d v r e w ne) c
 
@@ -202,8 +213,8 @@ module _ (s : Setup) (x : State) (sizes : Limited s) (h : Sound s x) (d : Asid) 
         r : PageRecord
         r = record { mapping = mappingOf s t d v; place = q }
 
-        still : (g : Gppn) → g .0 < s .frames → g .0 ≢ f .0 → (e : Asid) (w : Gvpn) → namesOf t g ≡ Page e w → T (isClearIn g (placeOf s t e w))
-            → Dec (pageNumber s e w ≡ pageNumber s d v) → T (isClearIn g (placeOf s u e w))
+        still : (g : Gppn) → g .0 < s .frames → g .0 ≢ f .0 → (e : Asid) (w : Gvpn) → namesOf t g ≡ Page e w
+            → T (isClearIn g (placeOf s t e w)) → Dec (pageNumber s e w ≡ pageNumber s d v) → T (isClearIn g (placeOf s u e w))
         still g hg ne e w m c (yes p) =
             let b = named-within s t g e w (rw m at (h .frame g hg)) in
             let k = number-one s e d w v (b .1) hv p in
@@ -215,4 +226,5 @@ module _ (s : Setup) (x : State) (sizes : Limited s) (h : Sound s x) (d : Asid) 
             rw (same-frame g f p, names-same t f n (omega (arith, h .shape .frames, sizes .frames))) names
         at g hg (no ne) =
             rw (names-other t f n g ne)
-            (names-kept s t u g (namesOf t g) (λ e w m c. still g hg ne e w m c (ℕ-discrete (pageNumber s e w) (pageNumber s d v))) (h .frame g hg))
+            (names-kept s t u g (namesOf t g) (λ e w m c. still g hg ne e w m c (ℕ-discrete (pageNumber s e w) (pageNumber s d v)))
+            (h .frame g hg))

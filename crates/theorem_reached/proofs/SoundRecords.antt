@@ -1,5 +1,5 @@
--- Changes of one record that keep a state sound: a domain's life, a context's activity, its saved registers, a page's mapping.
--- First what a test on one record asks of the other tables: where those agree, the record passes as before. Assumes nothing.
+-- Changes of a domain's life, a context's activity and its saved registers keep a state sound. First, what the test of one record asks of
+-- the other tables: where those agree, the record passes as before.
 use mathlib.Core.Path.{_≡_, refl}
 use mathlib.Core.List.{List}
 use mathlib.Core.Bool.{Bool, true, false, _||_, not}
@@ -75,7 +75,13 @@ module _ (s : Setup) (t u : Tables) where
   unfolding ownedSound
   owned-kept more d v r lives names h =
       let e = each _ h in
-      all _ (e .0, (place-sound-kept more d v (r .place) names (e .1 .0), (lived (isEmpty (lifeOf t d)) (isEmpty (lifeOf u d)) lives (e .1 .1 .0), tt)))
+      all _ (
+        e .0,
+        (
+          place-sound-kept more d v (r .place) names (e .1 .0),
+          (lived (isEmpty (lifeOf t d)) (isEmpty (lifeOf u d)) lives (e .1 .1 .0), tt),
+        ),
+      )
     where
       lived : (a b : Bool) → (T (not a) → T (not b)) → T (not a || untouched r) → T (not b || untouched r)
       lived true b l h = second-or (not b) (untouched r) h
@@ -97,7 +103,8 @@ module _ (s : Setup) (x : State) (sizes : Limited s) (h : Sound s x) where
   life-sound d hd life lives =
       let o = h .shape in
       record {
-        shape = record { domains = rw length-set (o .domains); contexts = o .contexts; saved = o .saved; pages = o .pages; frames = o .frames };
+        shape =
+            record { domains = rw length-set (o .domains); contexts = o .contexts; saved = o .saved; pages = o .pages; frames = o .frames };
         used = h .used;
         domain-past = λ e past. rw (life-other t d life e (omega arith)) (h .domain-past e past);
         context = λ c hc. activity-kept s t u lived (activityOf t c) (h .context c hc);
@@ -131,7 +138,8 @@ module _ (s : Setup) (x : State) (sizes : Limited s) (h : Sound s x) where
   activity-changed c hc a ok =
       let o = h .shape in
       record {
-        shape = record { domains = o .domains; contexts = rw length-set (o .contexts); saved = o .saved; pages = o .pages; frames = o .frames };
+        shape =
+            record { domains = o .domains; contexts = rw length-set (o .contexts); saved = o .saved; pages = o .pages; frames = o .frames };
         used = h .used;
         domain-past = h .domain-past;
         context = λ e he. activity-kept s t u (λ d l. l) (activityOf u e) (now e he (ℕ-discrete (e .0) (c .0)));
@@ -162,7 +170,8 @@ module _ (s : Setup) (x : State) (sizes : Limited s) (h : Sound s x) where
   saved-sound c hc words =
       let o = h .shape in
       record {
-        shape = record { domains = o .domains; contexts = o .contexts; saved = rw length-set (o .saved); pages = o .pages; frames = o .frames };
+        shape =
+            record { domains = o .domains; contexts = o .contexts; saved = rw length-set (o .saved); pages = o .pages; frames = o .frames };
         used = h .used;
         domain-past = h .domain-past;
         context = h .context;

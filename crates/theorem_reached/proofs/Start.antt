@@ -1,5 +1,5 @@
--- The start: fresh tables are sound under every setup; a start that is granted is acceptable, and after one that is refused every
--- event is refused with 10 and nothing moves. Assumes nothing.
+-- The start: fresh tables are sound under every setup; a granted start leaves an acceptable machine, and after a refused one every
+-- event is refused with 10 and changes nothing.
 use mathlib.Core.Path.{_≡_, refl, sym, _∙_}
 use mathlib.Core.List.{List, [], _∷_}
 use mathlib.Core.Bool.{Bool, true, false, cond, true≢false}
@@ -46,13 +46,17 @@ fresh-sound s =
         (
           all-of (domainSound s) emptyDomain _ (λ i _. rw (getD-fresh maxDomains i emptyDomain) (second-or (ltb i (s .domains)) true tt)),
           (
-            all-of (contextSound s freshTables) freeContext _ (λ i _. rw (getD-fresh maxContexts i freeContext) (pick (ltb i (s .contexts)) true true tt tt)),
+            all-of (contextSound s freshTables) freeContext _
+                (λ i _. rw (getD-fresh maxContexts i freeContext) (pick (ltb i (s .contexts)) true true tt tt)),
             (
-              all-of (savedSound s) zeroRegisters _ (λ i _. rw (getD-fresh maxContexts i zeroRegisters) (second-or (ltb i (s .contexts)) true tt)),
+              all-of (savedSound s) zeroRegisters _
+                  (λ i _. rw (getD-fresh maxContexts i zeroRegisters) (second-or (ltb i (s .contexts)) true tt)),
               (
-                all-of (pageSound s freshTables) publicPage _ (λ i _. rw (getD-fresh (maxDomains * maxPages) i publicPage) (fresh-page s i)),
+                all-of (pageSound s freshTables) publicPage _
+                    (λ i _. rw (getD-fresh (maxDomains * maxPages) i publicPage) (fresh-page s i)),
                 (
-                  all-of (frameSound s freshTables) openFrame _ (λ i _. rw (getD-fresh maxFrames i openFrame) (pick (ltb i (s .frames)) true true tt tt)),
+                  all-of (frameSound s freshTables) openFrame _
+                      (λ i _. rw (getD-fresh maxFrames i openFrame) (pick (ltb i (s .frames)) true true tt tt)),
                   tt,
                 ),
               ),
@@ -63,7 +67,8 @@ fresh-sound s =
     )
 
 -- the start's tables are fresh, granted or not
-started : (g : Given) (frames store : List ℕ) (b : Bool) → stateOf (cond b (machine freshState (zeros (length frames)) (zeros (length store))) (machine freshState frames store)) ≡ freshState
+started : (g : Given) (frames store : List ℕ) (b : Bool)
+    → stateOf (cond b (machine freshState (zeros (length frames)) (zeros (length store))) (machine freshState frames store)) ≡ freshState
 started g frames store true = refl
 started g frames store false = refl
 
@@ -92,7 +97,13 @@ module _ (g : Given) (frames store : List ℕ) where
       rw ok
       (accepted g (machine freshState (zeros (length frames)) (zeros (length store)))
       (all _ (
-        all _ (e .0, (rw (length-zeros (length frames)) (e .1 .0), (rw (length-zeros (length store)) (e .1 .1 .0), (fresh-sound (g .setup), tt)))),
+        all _ (
+          e .0,
+          (
+            rw (length-zeros (length frames)) (e .1 .0),
+            (rw (length-zeros (length store)) (e .1 .1 .0), (fresh-sound (g .setup), tt)),
+          ),
+        ),
         (e .1 .1 .1 .0, tt),
       )))
 
@@ -110,7 +121,8 @@ module _ (g : Given) (frames store : List ℕ) where
           let e = each _ (passed _ q) in
           let l = each _ (e .0) in
           absurd (true≢false
-          (sym (passes (allOf (starts g frames store)) (all (starts g frames store) (l .0, (l .1 .0, (l .1 .1 .0, (e .1 .0, tt)))))) ∙ denied _ ten))
+          (sym (passes (allOf (starts g frames store)) (all (starts g frames store) (l .0, (l .1 .0, (l .1 .1 .0, (e .1 .0, tt))))))
+          ∙ denied _ ten))
       go false q = refl
 
   pub step-refused : startRefusal g frames store ≡ 10 → (e : Event) (new buffer : List ℕ)

@@ -1,5 +1,5 @@
--- Touching a page at the frame to which it is mapped. Once the frames that stand in the way are sealed, the page is Public and
--- the frame names none, or it is there, or it is Sealed and the frame names none. Assumes nothing.
+-- The three cases of a page that is touched at the frame to which it is mapped, once the frames in its way are sealed: it is Public and the
+-- frame names none, or it is Clear in that frame, or it is Sealed and the frame names none.
 use mathlib.Core.Path.{_≡_, refl, ap, _∙_}
 use mathlib.Core.List.{[], _∷_}
 use mathlib.Core.Bool.{Bool, true, false, cond}
@@ -25,7 +25,8 @@ use Rattle.theorem_reached.proofs.FramesAndSlots.{Within}
 use Rattle.theorem_reached.proofs.SealPage.{Holds, sealed-place, others-place}
 
 -- what sealing a frame does to the place of any one page
-module _ (g : Given) (f : Gppn) (m : Machine) (accepted : Accepted g m) (hf : f .0 < g .setup .frames) (room : Room g f m) (d : Asid) (v : Gvpn)
+module _ (g : Given) (f : Gppn) (m : Machine) (accepted : Accepted g m) (hf : f .0 < g .setup .frames) (room : Room g f m) (d : Asid)
+    (v : Gvpn)
     (hd : Within (g .setup) d v) where
   abbrev s : Setup
   s = g .setup
@@ -53,7 +54,8 @@ pub data TouchCase (s : Setup) (t : Tables) (f : Gppn) (d : Asid) (v : Gvpn) : T
   there : (w : Wear) → Holds s t f d v w → TouchCase s t f d v
   away : (k : ℕ) → placeOf s t d v ≡ Sealed k → namesOf t f ≡ Nothing → TouchCase s t f d v
 
-module _ (g : Given) (m : Machine) (accepted : Accepted g m) (f : Gppn) (hf : f .0 < g .setup .frames) (d : Asid) (v : Gvpn) (hd : Within (g .setup) d v) where
+module _ (g : Given) (m : Machine) (accepted : Accepted g m) (f : Gppn) (hf : f .0 < g .setup .frames) (d : Asid) (v : Gvpn)
+    (hd : Within (g .setup) d v) where
   first-fits-at : (p : Place) → placeOf (g .setup) (m .tables) d v ≡ p → Fits (g .setup) (sealedFirst f p)
   unfolding sealedFirst
   first-fits-at Public e = (hf, tt)
@@ -80,7 +82,13 @@ module _ (g : Given) (m : Machine) (accepted : Accepted g m) (f : Gppn) (hf : f 
       pick true q enough =
           let r : h ≡ f = same-frame h f (eqb-true (h .0) (f .0) q) in
           let place = e ∙ ap (λ (x : Gppn). Clear x w) r in
-          there w (record { frame = hf; within = hd; names = (accepted .looks .agrees .named d v f w (hd .domain) (hd .page) place) .1; place = place })
+          there w (record {
+            frame = hf;
+            within = hd;
+            names =
+                (accepted .looks .agrees .named d v f w (hd .domain) (hd .page) place) .1;
+            place = place;
+          })
       pick false q enough =
           let hh = (accepted .looks .agrees .named d v h w (hd .domain) (hd .page) e) .0 in
           let fit : Fits (g .setup) (h ∷ f ∷ []) = (hh, (hf, tt)) in

@@ -1,5 +1,5 @@
--- Two acceptable machines that are alike to the kernel, and the operations that keep them so: sealing, making a page Clear in a
--- frame, filling a frame, ending a domain. Assumes nothing.
+-- When two machines are alike to the kernel, and the operations that keep them so: sealing, making a page Clear in a frame, filling a
+-- frame, ending a domain.
 use mathlib.Core.Path.{_≡_, refl, sym, ap, _∙_, subst}
 use mathlib.Core.List.{List, [], _∷_}
 use mathlib.Core.Bool.{Bool, true, false, cond}
@@ -55,8 +55,8 @@ enough-alike g m n a fs = subst (λ (t : Tables). t .used + needed (g .setup) t 
 
 -- sealing: the frame holds the same signature in both
 module _ (g : Given) (f : Gppn) (m n : Machine) (gm : Accepted g m) (gn : Accepted g n) (a : Alike (g .setup) m n) where
-  sealPage-alike : (d : Asid) (v : Gvpn) (w : Wear) → Holds (g .setup) (m .tables) f d v w → m .tables .used + takes w ≤ g .setup .signatures
-      → Alike (g .setup) (sealPage g f d v w m) (sealPage g f d v w n)
+  sealPage-alike : (d : Asid) (v : Gvpn) (w : Wear) → Holds (g .setup) (m .tables) f d v w
+      → m .tables .used + takes w ≤ g .setup .signatures → Alike (g .setup) (sealPage g f d v w m) (sealPage g f d v w n)
   unfolding sealPage sealedTables
   sealPage-alike d v w holds room =
       record {
@@ -90,8 +90,8 @@ module _ (g : Given) (f : Gppn) (m n : Machine) (gm : Accepted g m) (gn : Accept
       rw (seal-held g f n d v w (holds-alike (g .setup) m n a holds))
       (sealPage-alike d v w holds (room-held g f m d v w room holds)))
 
-pub sealAll-alike : (g : Given) (fs : List Gppn) (m n : Machine) → Accepted g m → Accepted g n → Fits (g .setup) fs → Enough g fs m → Alike (g .setup) m n
-    → Alike (g .setup) (sealAll g fs m) (sealAll g fs n)
+pub sealAll-alike : (g : Given) (fs : List Gppn) (m n : Machine) → Accepted g m → Accepted g n → Fits (g .setup) fs → Enough g fs m
+    → Alike (g .setup) m n → Alike (g .setup) (sealAll g fs m) (sealAll g fs n)
 unfolding sealAll
 sealAll-alike g [] m n gm gn fit enough a = a
 sealAll-alike g (f ∷ fs) m n gm gn fit enough a =
@@ -100,8 +100,9 @@ sealAll-alike g (f ∷ fs) m n gm gn fit enough a =
     (room-rest g f fs m gm fit enough) (seal-alike g f m n gm gn a (fit .0) (room-first g f fs m enough))
 
 module _ (s : Setup) (m n : Machine) (a : Alike s m n) where
-  -- records that are changed alike, where no frame is let go
-  pub tables-alike : (change : Tables → Tables) → ((t : Tables) → (change t) .frames ≡ t .frames) → Alike s (onTables change m) (onTables change n)
+  -- records that are changed alike, where no frame's record changes
+  pub tables-alike : (change : Tables → Tables) → ((t : Tables) → (change t) .frames ≡ t .frames)
+      → Alike s (onTables change m) (onTables change n)
   tables-alike change same =
       record {
         tables = ap change (a .tables);
@@ -119,7 +120,8 @@ module _ (s : Setup) (m n : Machine) (a : Alike s m n) where
   slot-alike d v x y = record { tables = a .tables; seals = a .seals; unveils = a .unveils; bare = a .bare }
 
 -- a frame filled, with the same bytes or while it names a page
-module _ (g : Given) (m n : Machine) (gm : Accepted g m) (gn : Accepted g n) (a : Alike (g .setup) m n) (f : Gppn) (hf : f .0 < g .setup .frames)
+module _ (g : Given) (m n : Machine) (gm : Accepted g m) (gn : Accepted g n) (a : Alike (g .setup) m n) (f : Gppn)
+    (hf : f .0 < g .setup .frames)
     (x y : List ℕ) (wx : length x ≡ g .setup .size) (wy : length y ≡ g .setup .size) where
   pub fill-alike : (namesOf (m .tables) f ≡ Nothing → x ≡ y) → Alike (g .setup) (fillFrame (g .setup) f x m) (fillFrame (g .setup) f y n)
   fill-alike same =
@@ -134,9 +136,11 @@ module _ (g : Given) (m n : Machine) (gm : Accepted g m) (gn : Accepted g n) (a 
           → frameBytes (g .setup) h (fillFrame (g .setup) f x m) ≡ frameBytes (g .setup) h (fillFrame (g .setup) f y n)
       at h hh q (yes p) =
           rw (same-frame h f p)
-          (filled (g .setup) f hf m (gm .looks .frames) x wx ∙ same (rw (same-frame h f p) at q) ∙ sym (filled (g .setup) f hf n (gn .looks .frames) y wy))
+          (filled (g .setup) f hf m (gm .looks .frames) x wx ∙ same (rw (same-frame h f p) at q) ∙ sym
+          (filled (g .setup) f hf n (gn .looks .frames) y wy))
       at h hh q (no ne) =
-          unfilled (g .setup) f hf m (gm .looks .frames) x wx h ne ∙ a .bare h hh q ∙ sym (unfilled (g .setup) f hf n (gn .looks .frames) y wy h ne)
+          unfilled (g .setup) f hf m (gm .looks .frames) x wx h ne ∙ a .bare h hh q ∙ sym
+          (unfilled (g .setup) f hf n (gn .looks .frames) y wy h ne)
 
 -- a page Clear in a frame that named none: what it holds may differ, since the frame names it
 pub enter-alike : (g : Given) (m n : Machine) → Alike (g .setup) m n → (f : Gppn) (d : Asid) (v : Gvpn) (w : Wear) (x y : List ℕ)
@@ -157,7 +161,8 @@ enter-alike g m n a f d v w x y hm hn k l e =
         → frameBytes (g .setup) h o ≡ frameBytes (g .setup) h (entered (g .setup) f d v w y l n)
     at h hh q (yes p) = absurd (nothing-page {d = d} {v = v} q (rw (same-frame h f p) ((enter-holds g m f d v w x hm k) .names)))
     at h hh q (no ne) =
-        enter-frames g m f d v w x hm k h ne ∙ a .bare h hh (sym (enter-names g m f d v w x hm k h ne) ∙ q) ∙ sym (enter-frames g n f d v w y hn l h ne)
+        enter-frames g m f d v w x hm k h ne ∙ a .bare h hh (sym (enter-names g m f d v w x hm k h ne) ∙ q) ∙ sym
+        (enter-frames g n f d v w y hn l h ne)
 
 -- the end of a domain: the frames that it lets go are zero in both
 pub ended-alike : (g : Given) (m n : Machine) → Accepted g m → Accepted g n → Alike (g .setup) m n → (d : Asid) → d .0 < g .setup .domains

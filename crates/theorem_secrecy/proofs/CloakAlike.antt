@@ -1,4 +1,4 @@
--- Turning a context, cloaking and uncloaking keep two machines alike. Assumes nothing.
+-- Two machines that are alike stay so where a context's activity and registers change, and where a page is cloaked or uncloaked.
 use mathlib.Core.Path.{_≡_, refl, subst, _∙_, sym, ap}
 use mathlib.Core.List.{List}
 use mathlib.Core.Bool.{not}
@@ -42,8 +42,8 @@ module _ (g : Given) (m n : Machine) (gm : Accepted g m) (gn : Accepted g n) (a 
   unfolding turned
   turned-alike c k x y = saved-alike s _ _ (tables-alike s m n a (withActivity c k) (λ t. refl)) c x y
 
-  pub cloaked-alike : (f : Gppn) → f .0 < s .frames → namesOf t f ≡ Nothing → (d : Asid) (v : Gvpn) → Within s d v → T (not (isEmpty (lifeOf t d)))
-      → placeOf s t d v ≡ Public → Alike s (cloaked s f d v m) (cloaked s f d v n)
+  pub cloaked-alike : (f : Gppn) → f .0 < s .frames → namesOf t f ≡ Nothing → (d : Asid) (v : Gvpn) → Within s d v
+      → T (not (isEmpty (lifeOf t d))) → placeOf s t d v ≡ Public → Alike s (cloaked s f d v m) (cloaked s f d v n)
   unfolding cloaked
   cloaked-alike f hf none d v hd lives place =
       enter-alike g m n a f d v Dirty _ _ (cloak-enters g m gm f hf none d v hd lives place)
@@ -51,7 +51,7 @@ module _ (g : Given) (m n : Machine) (gm : Accepted g m) (gn : Accepted g n) (a 
       (subst (λ (u : Tables). T (not (isEmpty (lifeOf u d)))) (a .tables) lives) (place-alike s m n a d v place))
       (m .unveils) (n .unveils) (a .unveils)
 
-  -- the frame that is let go is zero in both
+  -- the frame of a page that is uncloaked is zero in both
   freed-alike : (d : Asid) (v : Gvpn) → Within s d v → (f : Gppn) (w : Wear) → placeOf s t d v ≡ Clear f w
       → Alike s (uncloakedAt s d v (Clear f w) m) (uncloakedAt s d v (Clear f w) n)
   unfolding uncloakedAt zeroIfClear
@@ -66,7 +66,8 @@ module _ (g : Given) (m n : Machine) (gm : Accepted g m) (gn : Accepted g n) (a 
       hf : f .0 < s .frames
       hf = (gm .looks .agrees .named d v f w (hd .domain) (hd .page) e) .0
 
-      zero : (k : Machine) → Accepted g k → placeOf s (k .tables) d v ≡ Clear f w → frameBytes s f (uncloakedAt s d v (Clear f w) k) ≡ zeros (s .size)
+      zero : (k : Machine) → Accepted g k → placeOf s (k .tables) d v ≡ Clear f w
+          → frameBytes s f (uncloakedAt s d v (Clear f w) k) ≡ zeros (s .size)
       zero k accepted place =
           subst (λ (o : Machine). frameBytes s f o ≡ zeros (s .size)) (uncloaked-at s d v (Clear f w) k place)
           (uncloak-zeroes s f d v k hf (accepted .looks .frames) w place)
@@ -76,7 +77,8 @@ module _ (g : Given) (m n : Machine) (gm : Accepted g m) (gn : Accepted g n) (a 
       at h hh q (yes p) =
           rw (same-frame h f p) (zero m gm e ∙ sym (zero n gn (place-alike s m n a d v e)))
       at h hh q (no ne) =
-          unfilled s f hf m (gm .looks .frames) (zeros (s .size)) (length-zeros (s .size)) h ne ∙ a .bare h hh (sym (names-other t f Nothing h ne) ∙ q)
+          unfilled s f hf m (gm .looks .frames) (zeros (s .size)) (length-zeros (s .size)) h ne ∙ a .bare h hh
+          (sym (names-other t f Nothing h ne) ∙ q)
           ∙ sym (unfilled s f hf n (gn .looks .frames) (zeros (s .size)) (length-zeros (s .size)) h ne)
 
   pub uncloaked-alike : (d : Asid) (v : Gvpn) → Within s d v → Alike s (uncloaked s d v m) (uncloaked s d v n)
@@ -85,7 +87,8 @@ module _ (g : Given) (m n : Machine) (gm : Accepted g m) (gn : Accepted g n) (a 
       let p = placeOf s t d v in
       rw (uncloaked-at s d v p m refl, uncloaked-at s d v p n (sym (ap (λ (u : Tables). placeOf s u d v) (a .tables)))) (at p refl)
     where
-      slots : Alike s (onTables (withPlace s d v Public) (fillSlot s d v (zeros (s .size)) m)) (onTables (withPlace s d v Public) (fillSlot s d v (zeros (s .size)) n))
+      slots : Alike s (onTables (withPlace s d v Public) (fillSlot s d v (zeros (s .size)) m))
+          (onTables (withPlace s d v Public) (fillSlot s d v (zeros (s .size)) n))
       slots = tables-alike s _ _ (slot-alike s m n a d v (zeros (s .size)) (zeros (s .size))) (withPlace s d v Public) (λ u. refl)
 
       at : (p : Place) → placeOf s t d v ≡ p → Alike s (uncloakedAt s d v p m) (uncloakedAt s d v p n)

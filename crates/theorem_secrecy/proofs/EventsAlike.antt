@@ -1,4 +1,5 @@
--- Each event that is done, in two machines that are alike: it is done alike, and what the kernel is given agrees. Assumes nothing.
+-- Each of the fourteen events, where no check refuses it, in two machines that are alike: they stay alike, and what the kernel is given
+-- agrees.
 use mathlib.Core.Path.{_≡_, refl, ap}
 use mathlib.Core.List.{List, [], _∷_}
 use mathlib.Core.Bool.{true≢false}
@@ -51,7 +52,8 @@ module _ (g : Given) (m n : Machine) (gn : Accepted g n) (a : Alike (g .setup) m
 
   begin : (d : Asid) (c : Ctc) → DoneAlike (Begin d c)
   unfolding perform row onRecords sealAll does
-  begin d c p same = both-done s _ _ _ [] [] (tables-alike s m n a (λ u. withActivity c (Running d) (withLife d Live u)) (λ u. refl)) (λ _. refl)
+  begin d c p same =
+      both-done s _ _ _ [] [] (tables-alike s m n a (λ u. withActivity c (Running d) (withLife d Live u)) (λ u. refl)) (λ _. refl)
 
   end : (d : Asid) → DoneAlike (End d)
   unfolding perform row onRecords sealAll does numbersIn
@@ -89,7 +91,8 @@ module _ (g : Given) (m n : Machine) (gn : Accepted g n) (a : Alike (g .setup) m
       rw (read-seals s t f z)
       (both-done s _ _ _ _ _ b
       (λ _.
-      span-given g _ _ (kernel-accepted f hf (p .accepted) enough) (kernel-accepted′ f hf (p .accepted) enough) b f hf z x y (kernel-bare f hf (p .accepted) enough)))
+      span-given g _ _ (kernel-accepted f hf (p .accepted) enough) (kernel-accepted′ f hf (p .accepted) enough) b f hf z x y
+      (kernel-bare f hf (p .accepted) enough)))
 
   kernel-write : (f : Gppn) (z : Span) → DoneAlike (KernelWrite f z)
   unfolding perform does numbersIn
@@ -99,11 +102,13 @@ module _ (g : Given) (m n : Machine) (gn : Accepted g n) (a : Alike (g .setup) m
       let b = kernel-alike f hf (p .accepted) enough in
       rw (write-seals s t f z)
       (both-done s _ _ _ [] []
-      (span-alike g _ _ (kernel-accepted f hf (p .accepted) enough) (kernel-accepted′ f hf (p .accepted) enough) b f hf z x y (λ _. same)) (λ _. refl))
+      (span-alike g _ _ (kernel-accepted f hf (p .accepted) enough) (kernel-accepted′ f hf (p .accepted) enough) b f hf z x y (λ _. same))
+      (λ _. refl))
 
   resume : (d : Asid) (c : Ctc) → DoneAlike (Resume d c)
   unfolding perform row onRecords sealAll does
-  resume d c p same = both-done s _ _ _ _ _ (turned-alike g m n (p .accepted) gn a c (Running d) (zeros 8) (zeros 8)) (λ given. absurd (true≢false given))
+  resume d c p same =
+      both-done s _ _ _ _ _ (turned-alike g m n (p .accepted) gn a c (Running d) (zeros 8) (zeros 8)) (λ given. absurd (true≢false given))
 
   spawn : (c u : Ctc) → DoneAlike (Spawn c u)
   unfolding perform row acting sealAll does
@@ -141,13 +146,15 @@ module _ (g : Given) (m n : Machine) (gn : Accepted g n) (a : Alike (g .setup) m
   unfolding perform row touching onPage does numbersIn ownPlace
   read c v z p same =
       let own = read-own g m c v (length x) space z p in
-      read-alike g m n (p .accepted) gn a (ownFrame s t c v) (own .frame (p .granted .mapped)) (domainOf t c) v (own .within) (p .granted .signatures) z
+      read-alike g m n (p .accepted) gn a (ownFrame s t c v) (own .frame (p .granted .mapped)) (domainOf t c) v (own .within)
+      (p .granted .signatures) z
 
   write : (c : Ctc) (v : Gvpn) (z : Span) → DoneAlike (Write c v z)
   unfolding perform row touching onPage does numbersIn ownPlace
   write c v z p same =
       let own = write-own g m c v (length x) space z p in
-      write-alike g m n (p .accepted) gn a (ownFrame s t c v) (own .frame (p .granted .mapped)) (domainOf t c) v (own .within) (p .granted .signatures) z x y same
+      write-alike g m n (p .accepted) gn a (ownFrame s t c v) (own .frame (p .granted .mapped)) (domainOf t c) v (own .within)
+      (p .granted .signatures) z x y same
 
   pub done-alike : (e : Event) → Unrefused g m e (length x) space → SameButSecrets (g .setup) (m .tables) e x y
       → SameEffect (g .setup) (forApplication (g .setup) (m .tables) e) (perform g e x m)

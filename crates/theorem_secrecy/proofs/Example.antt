@@ -1,4 +1,4 @@
--- The premises of `secret` can be met by runs whose secrets differ. By computation. Assumes nothing.
+-- The premises of `secret` can be met by runs whose secrets differ: two such runs, worked out.
 use mathlib.Core.Path.{_≡_, refl, sym, ap}
 use mathlib.Core.Logic.{_≢_}
 use mathlib.Core.List.{List, [], _∷_, map}
@@ -29,7 +29,8 @@ unfolding computing
 services-hold = refl
 
 -- They start over different lent bytes,
-pub both-start : (startRefusal example (replicate 32 255) (replicate 32 255) ≡ 0) × (startRefusal example (replicate 32 1) (replicate 32 2) ≡ 0)
+pub both-start : (startRefusal example (replicate 32 255) (replicate 32 255) ≡ 0)
+    × (startRefusal example (replicate 32 1) (replicate 32 2) ≡ 0)
 unfolding computing
 both-start = (refl, refl)
 
@@ -100,7 +101,8 @@ differ-in-secrets = (
 pub services-same : transcript example (start example (replicate 32 255) (replicate 32 255)) (one .asks)
     ≡ transcript example (start example (replicate 32 1) (replicate 32 2)) (other .asks)
 services-same =
-    same-transcript example (replicate 32 255) (replicate 32 1) (replicate 32 255) (replicate 32 2) (both-start .0) (both-start .1) (one .asks) (other .asks)
+    same-transcript example (replicate 32 255) (replicate 32 1) (replicate 32 255) (replicate 32 2) (both-start .0) (both-start .1)
+    (one .asks) (other .asks)
     differ-in-secrets
 
 -- though the runs are not the same: the services read different bytes.

@@ -1,5 +1,5 @@
--- Reading and writing a page in two machines that are alike: the page is brought in in both or in neither, and a frame that names
--- a page is looked into by no one else. Assumes nothing.
+-- Reading and writing a page in two machines that are alike: the page is brought in in both or in neither, and what its frame holds may
+-- differ, since the frame names it.
 use mathlib.Core.Path.{_≡_, refl, sym, ap, ap₂, _∙_}
 use mathlib.Core.List.{List, []}
 use mathlib.Core.Bool.{Bool, true, false, not, true≢false}
@@ -38,14 +38,17 @@ pub record SameEffect (s : Setup) (alone : Bool) (e f : Effect) : Type 0 where
   pub machine : Alike s (e .machine) (f .machine)
   pub bytes : alone ≡ false → e .bytes ≡ f .bytes
 
-pub both-done : (s : Setup) (alone : Bool) (m n : Machine) (x y : List ℕ) → Alike s m n → (alone ≡ false → x ≡ y) → SameEffect s alone (done m x) (done n y)
+pub both-done : (s : Setup) (alone : Bool) (m n : Machine) (x y : List ℕ) → Alike s m n → (alone ≡ false → x ≡ y)
+    → SameEffect s alone (done m x) (done n y)
 unfolding done
 both-done s alone m n x y a h = record { number = refl; machine = a; bytes = h }
 
 -- a span stored alike: to a frame that names none, or to one that names a page
-module _ (g : Given) (m n : Machine) (gm : Accepted g m) (gn : Accepted g n) (a : Alike (g .setup) m n) (f : Gppn) (hf : f .0 < g .setup .frames) (p : Span)
+module _ (g : Given) (m n : Machine) (gm : Accepted g m) (gn : Accepted g n) (a : Alike (g .setup) m n) (f : Gppn)
+    (hf : f .0 < g .setup .frames) (p : Span)
     (x y : List ℕ) where
-  pub span-alike : (namesOf (m .tables) f ≡ Nothing → x ≡ y) → Alike (g .setup) (storeSpan (g .setup) f p x m) (storeSpan (g .setup) f p y n)
+  pub span-alike : (namesOf (m .tables) f ≡ Nothing → x ≡ y)
+      → Alike (g .setup) (storeSpan (g .setup) f p x m) (storeSpan (g .setup) f p y n)
   unfolding storeSpan
   span-alike same =
       fill-alike g m n gm gn a f hf _ _ (laid-whole g m gm f hf p x) (laid-whole g n gn f hf p y)
@@ -60,7 +63,8 @@ unfolding markedDirty
 marked-alike s m n a d v = tables-alike s m n a (λ t. withPlace s d v (written (placeOf s t d v)) t) (λ t. refl)
 
 -- a page touched
-module _ (g : Given) (m n : Machine) (gm : Accepted g m) (gn : Accepted g n) (a : Alike (g .setup) m n) (f : Gppn) (hf : f .0 < g .setup .frames)
+module _ (g : Given) (m n : Machine) (gm : Accepted g m) (gn : Accepted g n) (a : Alike (g .setup) m n) (f : Gppn)
+    (hf : f .0 < g .setup .frames)
     (d : Asid) (v : Gvpn) (hd : Within (g .setup) d v) (enough : Enough g (sealedFirst f (placeOf (g .setup) (m .tables) d v)) m) where
   abbrev s : Setup
   s = g .setup
@@ -115,7 +119,8 @@ module _ (g : Given) (m n : Machine) (gm : Accepted g m) (gn : Accepted g n) (a 
       bring-in-either g q q-accepted f hf d v hd (touch-case g m gm f hf d v hd enough)
       (λ e. SameEffect s alone (andThen e next) (andThen (bringIn g f d v r) next′))
       (λ place none. rw (brings-public g f d v r (over place)) (shared place none))
-      (λ w holds. rw (brings-clear g f d v r f w (over (holds .place))) (there q r w q-accepted r-accepted q-alike (private (ap isPublic (holds .place))) holds))
+      (λ w holds. rw (brings-clear g f d v r f w (over (holds .place)))
+      (there q r w q-accepted r-accepted q-alike (private (ap isPublic (holds .place))) holds))
       (λ k place none same.
       rw (brings-opened g f d v r k (over place) (sym (q-alike .bare f hf none) ∙ same))
       (there (unveiled g f d v k q) (unveiled g f d v k r) (Clean k) (unveiled-accepted g q q-accepted f hf d v hd k place none)
@@ -132,7 +137,8 @@ module _ (g : Given) (m n : Machine) (gm : Accepted g m) (gn : Accepted g n) (a 
       private e = sym public-as ∙ e
 
   -- a read: the bytes agree where the page is Public
-  pub read-alike : (p : Span) → SameEffect s (not (isPublic (placeOf s (m .tables) d v))) (andThen (bringIn g f d v q) (λ o. done o (spanBytes s f p o)))
+  pub read-alike : (p : Span)
+      → SameEffect s (not (isPublic (placeOf s (m .tables) d v))) (andThen (bringIn g f d v q) (λ o. done o (spanBytes s f p o)))
       (andThen (bringIn g f d v r) (λ o. done o (spanBytes s f p o)))
   read-alike p =
       touch-alike (not (isPublic (placeOf s (m .tables) d v))) (λ o. done o (spanBytes s f p o)) (λ o. done o (spanBytes s f p o))
@@ -147,6 +153,8 @@ module _ (g : Given) (m n : Machine) (gm : Accepted g m) (gn : Accepted g n) (a 
       touch-alike false (λ o. done (markedDirty s d v (storeSpan s f p x o)) []) (λ o. done (markedDirty s d v (storeSpan s f p y o)) [])
       (λ place none.
       both-done s false _ _ [] []
-      (marked-alike s _ _ (span-alike g q r q-accepted r-accepted q-alike f hf p x y (λ _. same (sym public-as ∙ ap isPublic place))) d v) (λ _. refl))
+      (marked-alike s _ _ (span-alike g q r q-accepted r-accepted q-alike f hf p x y (λ _. same (sym public-as ∙ ap isPublic place))) d v)
+      (λ _. refl))
       (λ o u w go gu b private holds.
-      both-done s false _ _ [] [] (marked-alike s _ _ (span-alike g o u go gu b f hf p x y (λ none. absurd (nothing-page none (holds .names)))) d v) (λ _. refl))
+      both-done s false _ _ [] []
+      (marked-alike s _ _ (span-alike g o u go gu b f hf p x y (λ none. absurd (nothing-page none (holds .names)))) d v) (λ _. refl))

@@ -1,4 +1,4 @@
--- What a trap shows is the same where the registers that may be seen are. Assumes nothing.
+-- What a trap shows is the same in two runs where the registers that may be seen are.
 use mathlib.Core.Path.{_≡_, refl, ap, ap₂, _∙_}
 use mathlib.Core.List.{List, _∷_}
 use mathlib.Core.Bool.{Bool, true, false, cond}
@@ -18,7 +18,8 @@ unfolding shows
 shows-only Interrupt mask i e = e
 shows-only Call mask i e = e
 
-module _ (k : TrapKind) (mask : ℕ) (x y : List ℕ) (same : (i : ℕ) → i < 8 → mayBeSeen k mask i ≡ true → registerOf i x ≡ registerOf i y) where
+module _ (k : TrapKind) (mask : ℕ) (x y : List ℕ)
+    (same : (i : ℕ) → i < 8 → mayBeSeen k mask i ≡ true → registerOf i x ≡ registerOf i y) where
   next : (j : ℕ) (l : List ℕ) → drop 8 (drop (j * 8) l) ≡ drop (suc j * 8) l
   next j l = let e : j * 8 + 8 ≡ suc j * 8 = omega arith in drop-drop 8 (j * 8) l ∙ ap (λ (n : ℕ). drop n l) e
 

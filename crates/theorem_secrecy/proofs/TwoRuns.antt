@@ -1,4 +1,4 @@
--- One event, and then a list of them, asked of two machines that are alike. Assumes nothing.
+-- One event, and then a list of them, asked of two machines that are alike: the kernel is told the same, and the machines stay alike.
 use mathlib.Core.Path.{_≡_, refl, sym, ap, ap₂, _∙_, subst}
 use mathlib.Core.List.{List, [], _∷_}
 use mathlib.Core.Bool.{Bool, true, false, cond}
@@ -66,10 +66,12 @@ module _ (g : Given) (e : Event) (x y b c : List ℕ) (m n : Machine) (gm : Acce
   refused-as : refusal g (outset n) e (length y) (length c) ≡ r
   unfolding r
   refused-as =
-      sym (refusal-alike g (outset m) (outset n) (outset-accepted g m gm) (outset-accepted g n gn) ((outset-alike (g .setup) m n a) .tables) e (length x) (length b)
+      sym (refusal-alike g (outset m) (outset n) (outset-accepted g m gm) (outset-accepted g n gn)
+      ((outset-alike (g .setup) m n a) .tables) e (length x) (length b)
       ∙ ap₂ (refusal g (outset n) e) data-length room)
 
-  performed-alike : r ≡ 0 → SameEffect (g .setup) (forApplication (g .setup) (m .tables) e) (perform g e x (outset m)) (perform g e y (outset n))
+  performed-alike : r ≡ 0
+      → SameEffect (g .setup) (forApplication (g .setup) (m .tables) e) (perform g e x (outset m)) (perform g e y (outset n))
   unfolding r perform outset
   performed-alike zero-is =
       let o = outset-alike (g .setup) m n a in
@@ -77,7 +79,8 @@ module _ (g : Given) (e : Event) (x y b c : List ℕ) (m n : Machine) (gm : Acce
       (λ (t : Tables). SameEffect (g .setup) (forApplication (g .setup) (m .tables) e) (perform g e x (outset m))
       (does g t e y (sealAll g ((row (g .setup) t e) .seals) (outset n))))
       (a .tables)
-      (done-alike g (outset m) (outset n) (outset-accepted g n gn) o x y (length b) e (unrefused g (outset m) e (length x) (length b) zero-is) secrets)
+      (done-alike g (outset m) (outset n) (outset-accepted g n gn) o x y (length b) e
+      (unrefused g (outset m) e (length x) (length b) zero-is) secrets)
 
   pub step-alike : AlikeAfter (g .setup) (m .tables) e (step g e x b m) (step g e y c n)
   unfolding performed refused r
@@ -119,7 +122,9 @@ point-alike g m n gm gn a =
     record {
       tables = a .tables;
       frames = a .bare;
-      looks = λ f p buffer. told-same (g .setup) (m .tables) (KernelRead f p) _ _ ((step-alike g (KernelRead f p) [] [] buffer buffer m n gm gn a refl refl refl) .answer);
+      looks =
+          λ f p buffer. told-same (g .setup) (m .tables) (KernelRead f p) _ _
+          ((step-alike g (KernelRead f p) [] [] buffer buffer m n gm gn a refl refl refl) .answer);
     }
 
 pub runs-alike : (g : Given) (asks others : List Ask) (m n : Machine) → Accepted g m → Accepted g n → Alike (g .setup) m n
@@ -135,10 +140,12 @@ runs-alike g (x ∷ xs) (y ∷ ys) m n gm gn a h =
       point-alike g m n gm gn a,
       (told-same (g .setup) (m .tables) (x .event) (answered g m x) (answered g n y) (k .answer)
           ∙ ap₂ (λ (t : Tables) (e : Event). told (g .setup) t e (answered g n y)) (a .tables) (d .event)),
-      runs-alike g xs ys _ _ (step-accepted g (x .event) (x .new) (x .buffer) m gm) (step-accepted g (y .event) (y .new) (y .buffer) n gn) (k .machine) (h .1),
+      runs-alike g xs ys _ _ (step-accepted g (x .event) (x .new) (x .buffer) m gm) (step-accepted g (y .event) (y .new) (y .buffer) n gn)
+          (k .machine) (h .1),
     )
 
-pub same-told : (g : Given) (asks others : List Ask) (m n : Machine) → SameRuns g m n asks others → transcript g m asks ≡ transcript g n others
+pub same-told : (g : Given) (asks others : List Ask) (m n : Machine) → SameRuns g m n asks others
+    → transcript g m asks ≡ transcript g n others
 unfolding transcript
 same-told g [] [] m n h = refl
 same-told g [] (y ∷ ys) m n h = absurd h

@@ -25,7 +25,8 @@ unfolding start
 start-is g frames store ok = rw ok
 
 start-zero : (g : Given) (frames store : List ℕ) → startRefusal g frames store ≡ 0
-    → start g frames store ≡ machine freshState (zeros (g .setup .frames * g .setup .size)) (zeros (g .setup .domains * g .setup .pages * g .setup .size))
+    → start g frames store
+    ≡ machine freshState (zeros (g .setup .frames * g .setup .size)) (zeros (g .setup .domains * g .setup .pages * g .setup .size))
 start-zero g frames store ok =
     let e = start-is g frames store ok in
     let accepted = subst (Accepted g) e (start-accepted g frames store ok) in
