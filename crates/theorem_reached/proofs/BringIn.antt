@@ -31,7 +31,7 @@ use Rattle.rules.proofs.Parts.{length-overlay}
 use Rattle.rules.proofs.Changes.{place-same}
 use Rattle.rules.proofs.Facts.{Accepted, accepted-kept}
 use Rattle.theorem_reached.proofs.SoundRecords.{names-self, life-sound}
-use Rattle.theorem_reached.proofs.SoundPages.{number-long, place-other, place-replaced, owned-lives}
+use Rattle.theorem_reached.proofs.SoundPages.{number-long, place-other, place-replaced, private-lives}
 use Rattle.theorem_reached.proofs.FramesAndSlots.{unveil-compares, write-dirties, Within, frame-whole, slot-whole}
 use Rattle.theorem_reached.proofs.SealPage.{Holds, Stays, frames-apart}
 use Rattle.theorem_reached.proofs.MakeClear.{none-clear, filled, unfilled, fill-accepted, Enters, enter-accepted, enter-holds}
@@ -51,7 +51,7 @@ module _ (g : Given) (n : Machine) (accepted : Accepted g n) (f : Gppn) (hf : f 
         accepted = accepted;
         frame = hf;
         within = hd;
-        lives = owned-lives s (n .tables) d v _ (accepted .looks .sound .page d v (hd .domain) (hd .page)) (rw place tt);
+        lives = private-lives g n accepted d v hd (rw place tt);
         none = none;
         away = λ j c. rw place at c;
         worn = lt→ltb _ _ (accepted .looks .agrees .sealed d v k (hd .domain) (hd .page) place);
@@ -177,10 +177,7 @@ module _ (g : Given) (n : Machine) (accepted : Accepted g n) (f : Gppn) (hf : f 
     pub stored-place : placeOf (g .setup) (o .tables) d v ≡ Clear f Dirty
     unfolding markedDirty storeSpan
     stored-place =
-        place-same (g .setup) (n .tables) d v
-        (number-long (g .setup) (stateOf n) (accepted .looks .sizes) (accepted .looks .sound) d v (holds .within .domain)
-        (holds .within .page)) _
-        ∙ dirty
+        place-same (g .setup) (n .tables) d v (number-long g n accepted d v (holds .within)) _ ∙ dirty
 
     pub stored-frame : frameBytes (g .setup) f o ≡ overlay (x .off) new (frameBytes (g .setup) f n)
     unfolding markedDirty
@@ -202,14 +199,10 @@ module _ (g : Given) (n : Machine) (accepted : Accepted g n) (f : Gppn) (hf : f 
     unfolding markedDirty storeSpan placeSound wearSound frameIn
     stored-accepted =
         let laid = span-accepted in
-        let page = accepted .looks .sound .page d v (holds .within .domain) (holds .within .page) in
         accepted-kept g (storeSpan (g .setup) f x new n) o laid refl refl
-        (place-replaced (g .setup) (stateOf n) (accepted .looks .sizes) (accepted .looks .sound) d v (holds .within .domain)
-        (holds .within .page)
-        (written (placeOf (g .setup) (n .tables) d v))
+        (place-replaced g n accepted d v (holds .within) (written (placeOf (g .setup) (n .tables) d v))
         (rw dirty (all _ (lt→ltb _ _ hf, (rw (holds .names) (names-self d v), (tt, tt)))))
-        (owned-lives (g .setup) (n .tables) d v _ page (rw (holds .place) tt))
-        (λ h c. rw dirty (rw (holds .place) at c)))
+        (private-lives g n accepted d v (holds .within) (rw (holds .place) tt)) (λ h c. rw dirty (rw (holds .place) at c)))
 
 -- a Public page is not marked
 pub unmarked : (s : Setup) (d : Asid) (v : Gvpn) (m : Machine) → placeOf s (m .tables) d v ≡ Public → markedDirty s d v m ≡ m

@@ -9,8 +9,7 @@ use lib.Dec.{T}
 use borrow.Author.Tests.{eqb-true, eqb-false}
 use Rattle.rules.specs.Bytes.{zeros}
 use Rattle.rules.specs.Sizes.{pageNumber}
-use Rattle.rules.specs.Records.{Given, Machine, stateOf, lifeOf, placeOf, namesOf, isEmpty, isPublic, withPlace, onTables, slotBytes}
-use Rattle.rules.specs.Records.{fillSlot}
+use Rattle.rules.specs.Records.{Given, Machine, lifeOf, placeOf, namesOf, isEmpty, isPublic, withPlace, onTables, slotBytes, fillSlot}
 use Rattle.rules.specs.Sound.{placeSound, namesSound, wearSound}
 use Rattle.rules.specs.Events.{cloaked, zeroIfClear, uncloaked}
 use Rattle.rules.specs.declared.Setup.{Setup}
@@ -97,8 +96,7 @@ module _ (g : Given) (m : Machine) (accepted : Accepted g m) where
         let n = accepted .looks .agrees .named d v f w (hd .domain) (hd .page) e in
         accepted-kept g m (uncloakedAt s d v (Clear f w) m) accepted (length-withPart (s .size) (f .0) _ (m .frames))
         (length-withPart (s .size) (pageNumber s d v) (zeros (s .size)) (m .store))
-        (moved-sound s (stateOf m) (accepted .looks .sizes) (accepted .looks .sound) d v (hd .domain) (hd .page) f (n .0) lives
-        (λ h c. clear-in f h w _ e c)
+        (moved-sound g m accepted d v hd f (n .0) lives (λ h c. clear-in f h w _ e c)
         (λ x y r.
         let names = n .1 in
         let px : x ≡ d = cc in
@@ -108,8 +106,7 @@ module _ (g : Given) (m : Machine) (accepted : Accepted g m) where
     uncloak-accepted-at (Sealed k) e q =
         accepted-kept g m (uncloakedAt s d v (Sealed k) m) accepted refl
         (length-withPart (s .size) (pageNumber s d v) (zeros (s .size)) (m .store))
-        (place-replaced s (stateOf m) (accepted .looks .sizes) (accepted .looks .sound) d v (hd .domain) (hd .page) Public tt lives
-        (λ h c. absurd (rw e at c)))
+        (place-replaced g m accepted d v hd Public tt lives (λ h c. absurd (rw e at c)))
 
     uncloak-stays-at : (p : Place) → placeOf s (m .tables) d v ≡ p → (e : Asid) (w : Gvpn) → Within s e w
         → pageNumber s e w ≢ pageNumber s d v → Stays s e w m (uncloakedAt s d v p m)
@@ -117,8 +114,7 @@ module _ (g : Given) (m : Machine) (accepted : Accepted g m) where
     uncloak-stays-at Public q e w he ne =
         record {
           place = place-other s (m .tables) d v _ e w ne;
-          frame =
-              λ f z c. refl;
+          frame = λ f z c. refl;
           slot = dropped-store m refl e w ne;
           used = omega arith;
         }
@@ -137,8 +133,7 @@ module _ (g : Given) (m : Machine) (accepted : Accepted g m) where
     uncloak-stays-at (Sealed k) q e w he ne =
         record {
           place = place-other s (m .tables) d v _ e w ne;
-          frame =
-              λ f z c. refl;
+          frame = λ f z c. refl;
           slot = dropped-store m refl e w ne;
           used = omega arith;
         }
@@ -152,8 +147,7 @@ module _ (g : Given) (m : Machine) (accepted : Accepted g m) where
     uncloak-place =
         let p = placeOf s (m .tables) d v in
         place-same s ((zeroIfClear s p m) .tables) d v
-        (rw (zeroed-pages p) (number-long s (stateOf m) (accepted .looks .sizes) (accepted .looks .sound) d v (hd .domain)
-        (hd .page))) Public
+        (rw (zeroed-pages p) (number-long g m accepted d v hd)) Public
 
     pub uncloak-fate : (e : Asid) (w : Gvpn) → Within s e w → (b : Bool) → sameNumber s d v e w ≡ b
         → Fate s e w m (uncloaked s d v m) (cond b dropped kept)

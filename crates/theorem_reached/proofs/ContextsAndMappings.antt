@@ -67,7 +67,7 @@ module _ (g : Given) (m : Machine) (accepted : Accepted g m) where
       → T (not (isEmpty (lifeOf (m .tables) d))) → Accepted g (onTables (withMapping s d v y) m)
   mapping-accepted d v hd y ok lives =
       accepted-kept g m (onTables (withMapping s d v y) m) accepted refl refl
-      (mapping-sound s (stateOf m) (accepted .looks .sizes) (accepted .looks .sound) d v (hd .domain) (hd .page) y ok lives)
+      (mapping-sound g m accepted d v hd y ok lives)
 
   pub mapping-stays : (d : Asid) (v : Gvpn) → Within s d v → (y : Mapping) (e : Asid) (w : Gvpn) → Within s e w
       → Stays s e w m (onTables (withMapping s d v y) m)
@@ -77,6 +77,5 @@ module _ (g : Given) (m : Machine) (accepted : Accepted g m) where
       at : Dec (pageNumber s e w ≡ pageNumber s d v) → placeOf s (withMapping s d v y (m .tables)) e w ≡ placeOf s (m .tables) e w
       at (yes p) =
           let k = number-one s e d w v (he .page) (hd .page) p in
-          rw (k .0, k .1) (place-kept s (m .tables) d v
-          (number-long s (stateOf m) (accepted .looks .sizes) (accepted .looks .sound) d v (hd .domain) (hd .page)) y)
+          rw (k .0, k .1) (place-kept s (m .tables) d v (number-long g m accepted d v hd) y)
       at (no ne) = place-other s (m .tables) d v _ e w ne

@@ -11,12 +11,10 @@ use lib.ListN.{length}
 use lib.Dec.{T, eqb-refl, lt→ltb}
 use Rattle.rules.specs.Bytes.{withPart}
 use Rattle.rules.specs.Sizes.{pageNumber, domainIn, pageIn, frameIn}
-use Rattle.rules.specs.Records.{Given, Machine, stateOf, lifeOf, placeOf, namesOf, isClearIn, isEmpty, withNames, withPlace, frameBytes}
-use Rattle.rules.specs.Records.{fillFrame}
+use Rattle.rules.specs.Records.{Given, Machine, lifeOf, placeOf, namesOf, isClearIn, isEmpty, withNames, withPlace, frameBytes, fillFrame}
 use Rattle.rules.specs.Sound.{wearSound, placeSound, namesSound}
-use Rattle.rules.specs.Asked.{Limited, Agreed}
+use Rattle.rules.specs.Asked.{Agreed}
 use Rattle.rules.specs.declared.Setup.{Setup}
-use Rattle.rules.specs.declared.State.{State}
 use Rattle.rules.specs.declared.Tables.{Tables}
 use Rattle.rules.specs.declared.Asid.{Asid}
 use Rattle.rules.specs.declared.Gvpn.{Gvpn}
@@ -30,7 +28,6 @@ use Rattle.rules.proofs.Parts.{length-withPart, part-fits, part-same, part-othe
 use Rattle.rules.proofs.Changes.{place-same, names-same, names-other}
 use Rattle.rules.proofs.Tests.{all}
 use Rattle.rules.proofs.PageNumbers.{same-frame}
-use Rattle.rules.proofs.Soundness.{Sound}
 use Rattle.rules.proofs.Facts.{Accepted, accepted-kept}
 use Rattle.theorem_reached.proofs.SoundRecords.{names-self}
 use Rattle.theorem_reached.proofs.SoundPages.{number-long, moved-sound, place-other}
@@ -45,33 +42,6 @@ pub none-clear : (s : Setup) (t : Tables) → Agreed s t → (f : Gppn) → name
     → (h : Gppn) (w : Wear) → placeOf s t d v ≡ Clear h w → h .0 ≢ f .0
 none-clear s t agrees f none d v hd h w c q =
     nothing-page none (rw (same-frame h f q) at ((agrees .named d v h w (hd .domain) (hd .page) c) .1))
-
--- a page Clear in a frame that named none
-module _ (s : Setup) (x : State) (sizes : Limited s) (h : Sound s x) (f : Gppn) (hf : f .0 < s .frames) (d : Asid) (v : Gvpn)
-    (hd : Within s d v)
-    (w : Wear) (lives : T (not (isEmpty (lifeOf (x .tables) d)))) (none : namesOf (x .tables) f ≡ Nothing)
-    (away : (k : Gppn) → T (isClearIn k (placeOf s (x .tables) d v)) → ⊥) (worn : T (wearSound (x .tables) w)) where
-  abbrev pub enteredTables : Tables
-  enteredTables = withNames f (Page d v) (withPlace s d v (Clear f w) (x .tables))
-
-  pub entered-place : placeOf s enteredTables d v ≡ Clear f w
-  entered-place = place-same s (x .tables) d v (number-long s x sizes h d v (hd .domain) (hd .page)) (Clear f w)
-
-  pub entered-names : namesOf enteredTables f ≡ Page d v
-  entered-names = names-same (x .tables) f (Page d v) (omega (arith, h .shape .frames, sizes .frames))
-
-  worn-still : (w : Wear) → T (wearSound (x .tables) w) → T (wearSound enteredTables w)
-  unfolding wearSound
-  worn-still Dirty t = t
-  worn-still (Clean k) t = t
-
-  pub entered-sound : Sound s (record { tables = withNames f (Page d v) (withPlace s d v (Clear f w) (x .tables)); saved = x .saved })
-  unfolding placeSound namesSound frameIn domainIn pageIn
-  entered-sound =
-      moved-sound s x sizes h d v (hd .domain) (hd .page) f hf lives (λ k c. absurd (away k c)) (λ e y q. absurd (nothing-page none q))
-      (x .tables .used) (omega arith) (h .used) (Clear f w) (Page d v)
-      (all _ (lt→ltb _ _ hf, (rw entered-names (names-self d v), (worn-still w worn, tt))))
-      (all _ (lt→ltb _ _ (hd .domain), (lt→ltb _ _ (hd .page), (rw entered-place (eqb-refl (f .0)), tt))))
 
 -- a frame filled
 module _ (s : Setup) (f : Gppn) (hf : f .0 < s .frames) (m : Machine) (long : length (m .frames) ≡ s .frames * s .size) (new : List ℕ)
@@ -117,24 +87,32 @@ module _ (g : Given) (m : Machine) (f : Gppn) (d : Asid) (v : Gvpn) (w : Wear) (
   abbrev n : Machine
   n = entered s f d v w new k m
 
-  pub enter-accepted : Accepted g n
-  enter-accepted =
-      accepted-kept g m n (h .accepted) (length-withPart (s .size) (f .0) new (m .frames)) refl
-      (entered-sound s (stateOf m) (h .accepted .looks .sizes) (h .accepted .looks .sound) f (h .frame) d v (h .within) w (h .lives)
-      (h .none) (h .away) (h .worn))
-
   pub enter-holds : Holds s (n .tables) f d v w
   enter-holds =
       record {
         frame = h .frame;
         within = h .within;
         names =
-            entered-names s (stateOf m) (h .accepted .looks .sizes) (h .accepted .looks .sound) f (h .frame) d v (h .within) w (h .lives)
-            (h .none) (h .away) (h .worn);
-        place =
-            entered-place s (stateOf m) (h .accepted .looks .sizes) (h .accepted .looks .sound) f (h .frame) d v (h .within) w (h .lives)
-            (h .none) (h .away) (h .worn);
+            names-same (m .tables) f (Page d v)
+            (omega (arith, h .frame, h .accepted .looks .shapes .frames, h .accepted .looks .sizes .frames));
+        place = place-same s (m .tables) d v (number-long g m (h .accepted) d v (h .within)) (Clear f w);
       }
+
+  worn-still : (w : Wear) → T (wearSound (m .tables) w) → T (wearSound (n .tables) w)
+  unfolding wearSound
+  worn-still Dirty t = t
+  worn-still (Clean k) t = t
+
+  pub enter-accepted : Accepted g n
+  unfolding placeSound namesSound frameIn domainIn pageIn
+  enter-accepted =
+      let now = enter-holds in
+      let a = h .accepted in
+      accepted-kept g m n a (length-withPart (s .size) (f .0) new (m .frames)) refl
+      (moved-sound g m a d v (h .within) f (h .frame) (h .lives) (λ k c. absurd (h .away k c))
+      (λ e y q. absurd (nothing-page (h .none) q)) (m .tables .used) (omega arith) (a .looks .sound .used) (Clear f w) (Page d v)
+      (all _ (lt→ltb _ _ (h .frame), (rw (now .names) (names-self d v), (worn-still w (h .worn), tt))))
+      (all _ (lt→ltb _ _ (h .within .domain), (lt→ltb _ _ (h .within .page), (rw (now .place) (eqb-refl (f .0)), tt)))))
 
   pub enter-frame : frameBytes s f n ≡ new
   enter-frame = filled s f (h .frame) m (h .accepted .looks .frames) new (h .whole)

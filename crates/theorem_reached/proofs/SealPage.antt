@@ -7,7 +7,7 @@ use native.Mathlib.Omega.{arith}
 use lib.ListN.{length}
 use lib.Dec.{T, eqb→eq, lt→ltb}
 use Rattle.rules.specs.Sizes.{pageNumber}
-use Rattle.rules.specs.Records.{Given, Machine, stateOf, placeOf, namesOf, isClearIn, frameBytes, slotBytes}
+use Rattle.rules.specs.Records.{Given, Machine, placeOf, namesOf, isClearIn, frameBytes, slotBytes}
 use Rattle.rules.specs.Sound.{placeSound, namesSound}
 use Rattle.rules.specs.Sealing.{signature, sealedWith, takes, sealedTables, sealPage}
 use Rattle.rules.specs.Asked.{Agreed}
@@ -27,7 +27,7 @@ use Rattle.rules.proofs.Changes.{place-same, names-same, names-other}
 use Rattle.rules.proofs.Facts.{Accepted, accepted-kept}
 use Rattle.theorem_reached.proofs.FramesAndSlots.{Within, frame-whole, slot-fits, signature-whole, seal-keeps-bytes}
 use Rattle.theorem_reached.proofs.FramesAndSlots.{seal-shows-signature}
-use Rattle.theorem_reached.proofs.SoundPages.{number-long, moved-sound, place-other, owned-lives}
+use Rattle.theorem_reached.proofs.SoundPages.{number-long, moved-sound, place-other, private-lives}
 
 -- frame f is within the setup and holds page d, v, which is Clear there
 pub record Holds (s : Setup) (t : Tables) (f : Gppn) (d : Asid) (v : Gvpn) (w : Wear) : Type 0 where
@@ -94,8 +94,7 @@ module _ (g : Given) (f : Gppn) (d : Asid) (v : Gvpn) (w : Wear) (m : Machine) (
   pub sealed-place : placeOf s (n .tables) d v ≡ Sealed (sealedWith (m .tables .used) w)
   unfolding sealPage sealedTables
   sealed-place =
-      place-same s (m .tables) d v
-      (number-long s (stateOf m) (accepted .looks .sizes) (accepted .looks .sound) d v (holds .within .domain) (holds .within .page)) _
+      place-same s (m .tables) d v (number-long g m accepted d v (holds .within)) _
 
   pub sealed-slot : slotBytes s d v n ≡ frameBytes s f m
   sealed-slot = seal-keeps-bytes g f d v w m (holds .frame) (accepted .looks .frames) (holds .within) (accepted .looks .store)
@@ -147,11 +146,8 @@ module _ (g : Given) (f : Gppn) (d : Asid) (v : Gvpn) (w : Wear) (m : Machine) (
   sealed-accepted =
       accepted-kept g m n accepted (length-withPart (s .size) (f .0) _ (m .frames))
       (length-withPart (s .size) (pageNumber s d v) _ (m .store))
-      (moved-sound s (stateOf m) (accepted .looks .sizes) (accepted .looks .sound) d v (holds .within .domain) (holds .within .page) f
-      (holds .frame)
-      (owned-lives s (m .tables) d v _ (accepted .looks .sound .page d v (holds .within .domain) (holds .within .page))
-      (rw (holds .place) tt))
-      (λ h c. clear-in f h w _ (holds .place) c)
+      (moved-sound g m accepted d v (holds .within) f (holds .frame)
+      (private-lives g m accepted d v (holds .within) (rw (holds .place) tt)) (λ h c. clear-in f h w _ (holds .place) c)
       (λ e x q.
       let names = holds .names in
       let pd : e ≡ d = cc in

@@ -10,12 +10,11 @@ use native.Mathlib.Omega.{arith}
 use lib.ListN.{length, set, length-set}
 use lib.Seq.{getD-set-other}
 use lib.Dec.{T, ltb→lt}
+use Rattle.rules.specs.Records.{Given, Machine, stateOf, publicPage, lifeOf, activityOf, pageOf, placeOf, mappingOf, namesOf, isEmpty}
+use Rattle.rules.specs.Records.{isUnmapped, isPublic, isClearIn, namesNone, withPage, withMapping, withPlace, withNames, withUsed}
 use Rattle.rules.specs.Bytes.{allOf}
 use Rattle.rules.specs.Sizes.{pageNumber, domainIn, pageIn, maxDomains, maxPages}
-use Rattle.rules.specs.Records.{publicPage, lifeOf, activityOf, pageOf, placeOf, mappingOf, namesOf, isEmpty, isUnmapped, isPublic}
-use Rattle.rules.specs.Records.{isClearIn, namesNone, withPage, withMapping, withPlace, withNames, withUsed}
 use Rattle.rules.specs.Sound.{mappingSound, placeSound, untouched, ownedSound, namesSound}
-use Rattle.rules.specs.Asked.{Limited}
 use Rattle.rules.specs.declared.Setup.{Setup}
 use Rattle.rules.specs.declared.State.{State}
 use Rattle.rules.specs.declared.Tables.{Tables}
@@ -30,21 +29,19 @@ use Rattle.rules.specs.declared.Place.{Place}
 use Rattle.rules.specs.declared.Place.the-variants.{Clear}
 use Rattle.rules.specs.declared.Named.{Named}
 use Rattle.rules.specs.declared.Named.the-variants.{Page}
+use Rattle.rules.proofs.Facts.{Accepted}
+use Rattle.rules.proofs.Tests.{first-or, each, all}
 use Rattle.rules.proofs.PageNumbers.{number-in, number-one, number-within, same-frame}
 use Rattle.rules.proofs.Changes.{page-same, page-other, names-same, names-other}
-use Rattle.rules.proofs.Tests.{each, all}
 use Rattle.rules.proofs.Soundness.{Sound}
+use Rattle.theorem_reached.proofs.FramesAndSlots.{Within}
 use Rattle.theorem_reached.proofs.SoundRecords.{activity-kept, owned-kept, names-kept}
 
 -- a page's record in a domain that is not Empty
 module _ (s : Setup) (t : Tables) (d : Asid) (v : Gvpn) (r : PageRecord) where
   owned-of : T (mappingSound s (r .mapping)) → T (placeSound s t d v (r .place)) → T (not (isEmpty (lifeOf t d))) → T (ownedSound s t d v r)
   unfolding ownedSound
-  owned-of mapping place lives = all _ (mapping, (place, (true-or (not (isEmpty (lifeOf t d))) (untouched r) lives, tt)))
-    where
-      true-or : (a b : Bool) → T a → T (a || b)
-      true-or true b t = tt
-      true-or false b t = absurd t
+  owned-of mapping place lives = all _ (mapping, (place, (first-or (not (isEmpty (lifeOf t d))) (untouched r) lives, tt)))
 
   owned-mapping : T (ownedSound s t d v r) → T (mappingSound s (r .mapping))
   unfolding ownedSound
@@ -55,7 +52,7 @@ module _ (s : Setup) (t : Tables) (d : Asid) (v : Gvpn) (r : PageRecord) where
   owned-place h = (each _ h) .1 .0
 
   -- a page that is not Public and unmapped is in such a domain
-  pub owned-lives : T (ownedSound s t d v r) → T (not (isPublic (r .place))) → T (not (isEmpty (lifeOf t d)))
+  owned-lives : T (ownedSound s t d v r) → T (not (isPublic (r .place))) → T (not (isEmpty (lifeOf t d)))
   unfolding ownedSound untouched
   owned-lives h private = go (isEmpty (lifeOf t d)) (isPublic (r .place)) ((each _ h) .1 .1 .0) private
     where
@@ -86,10 +83,25 @@ rewritten s d v r frames used t =
       used = used;
     }
 
-module _ (s : Setup) (x : State) (sizes : Limited s) (h : Sound s x) (d : Asid) (v : Gvpn) (hd : d .0 < s .domains)
-    (hv : v .0 < s .pages) where
+-- a page of an acceptable machine, whose record is to change
+module _ (g : Given) (m : Machine) (accepted : Accepted g m) (d : Asid) (v : Gvpn) (hd : Within (g .setup) d v) where
+  abbrev s : Setup
+  s = g .setup
+
+  abbrev x : State
+  x = stateOf m
+
+  abbrev h : Sound s x
+  h = accepted .looks .sound
+
   pub number-long : pageNumber s d v < length (x .tables .pages)
-  number-long = omega (arith, h .shape .pages, number-within s d v hv maxDomains maxPages (sizes .domains) (sizes .pages) hd)
+  number-long =
+      let sizes = accepted .looks .sizes in
+      omega (arith, accepted .looks .shapes .pages, number-within s d v (hd .page) maxDomains maxPages (sizes .domains) (sizes .pages) (hd .domain))
+
+  -- a page that is not Public is in a domain that is not Empty
+  pub private-lives : T (not (isPublic (placeOf s (m .tables) d v))) → T (not (isEmpty (lifeOf (m .tables) d)))
+  private-lives = owned-lives s (m .tables) d v _ (h .page d v (hd .domain) (hd .page))
 
   module _ (r : PageRecord) (frames : List FrameRecord) (used : ℕ) where
     t : Tables
@@ -130,7 +142,7 @@ module _ (s : Setup) (x : State) (sizes : Limited s) (h : Sound s x) (d : Asid) 
           page = λ e w he hw. at e w he hw (ℕ-discrete (pageNumber s e w) (pageNumber s d v));
           page-past =
               λ i q.
-              let n = number-in s d v hv hd in
+              let n = number-in s d v (hd .page) (hd .domain) in
               rw (getD-set-other (t .pages) (pageNumber s d v) i r publicPage (omega arith)) (h .page-past i q);
           frame = names;
           frame-past = past;
@@ -139,20 +151,18 @@ module _ (s : Setup) (x : State) (sizes : Limited s) (h : Sound s x) (d : Asid) 
         at : (e : Asid) (w : Gvpn) → e .0 < s .domains → w .0 < s .pages → Dec (pageNumber s e w ≡ pageNumber s d v)
             → T (ownedSound s u e w (pageOf s u e w))
         at e w he hw (yes q) =
-            let k = number-one s e d w v hw hv q in
+            let k = number-one s e d w v hw (hd .page) q in
             rw (k .0, k .1, page-same s t d v r number-long) own
         at e w he hw (no ne) =
             rw (other e w ne)
             (owned-kept s t u more e w (pageOf s t e w) (λ l. l) (λ f y c n. others e w f y he hw ne c n) (h .page e w he hw))
 
--- a page's record alone: its frame, if it is Clear, stays
-module _ (s : Setup) (x : State) (sizes : Limited s) (h : Sound s x) (d : Asid) (v : Gvpn) (hd : d .0 < s .domains)
-    (hv : v .0 < s .pages) where
+  -- a page's record alone: its frame, if it is Clear, stays
   pub replaced-sound : (r : PageRecord) → T (ownedSound s (x .tables) d v r)
       → ((f : Gppn) → T (isClearIn f (placeOf s (x .tables) d v)) → T (isClearIn f (r .place)))
       → Sound s (record { tables = rewritten s d v r (x .tables .frames) (x .tables .used) (x .tables); saved = x .saved })
   replaced-sound r own stays =
-      rewritten-sound s x sizes h d v hd hv r (t .frames) (t .used) refl (omega arith) (h .used)
+      rewritten-sound r (t .frames) (t .used) refl (omega arith) (h .used)
       (owned-kept s t u (omega arith) d v r (λ l. l) (λ f w _ n. n) own) (λ e w f y _ _ _ _ n. n)
       (λ f hf. names-kept s t u f (namesOf t f) (λ e w q c. at f hf e w q c (ℕ-discrete (pageNumber s e w) (pageNumber s d v)))
       (h .frame f hf))
@@ -168,9 +178,9 @@ module _ (s : Setup) (x : State) (sizes : Limited s) (h : Sound s x) (d : Asid) 
           → Dec (pageNumber s e w ≡ pageNumber s d v) → T (isClearIn f (placeOf s u e w))
       at f hf e w q c (yes p) =
           let b = named-within s t f e w (rw q at (h .frame f hf)) in
-          let k = number-one s e d w v (b .1) hv p in
+          let k = number-one s e d w v (b .1) (hd .page) p in
           let now : placeOf s u d v ≡ r .place =
-          ap (λ (p : PageRecord). p .place) (page-same s t d v r (number-long s x sizes h d v hd hv)) in
+          ap (λ (p : PageRecord). p .place) (page-same s t d v r number-long) in
           rw (k .0, k .1, now) (stays f (rw (k .0, k .1) at c))
       at f hf e w q c (no ne) = rw (place-other s t d v r e w ne) c
 
@@ -178,14 +188,14 @@ module _ (s : Setup) (x : State) (sizes : Limited s) (h : Sound s x) (d : Asid) 
       → Sound s (record { tables = withMapping s d v y (x .tables); saved = x .saved })
   mapping-sound y ok lives =
       let r : PageRecord = record { mapping = y; place = placeOf s (x .tables) d v } in
-      replaced-sound r (owned-of s (x .tables) d v r ok (owned-place s (x .tables) d v _ (h .page d v hd hv)) lives) (λ f c. c)
+      replaced-sound r (owned-of s (x .tables) d v r ok (owned-place s (x .tables) d v _ (h .page d v (hd .domain) (hd .page))) lives) (λ f c. c)
 
   pub place-replaced : (q : Place) → T (placeSound s (x .tables) d v q) → T (not (isEmpty (lifeOf (x .tables) d)))
       → ((f : Gppn) → T (isClearIn f (placeOf s (x .tables) d v)) → T (isClearIn f q))
       → Sound s (record { tables = withPlace s d v q (x .tables); saved = x .saved })
   place-replaced q ok lives stays =
       let r : PageRecord = record { mapping = mappingOf s (x .tables) d v; place = q } in
-      replaced-sound r (owned-of s (x .tables) d v r (owned-mapping s (x .tables) d v _ (h .page d v hd hv)) ok lives) stays
+      replaced-sound r (owned-of s (x .tables) d v r (owned-mapping s (x .tables) d v _ (h .page d v (hd .domain) (hd .page))) ok lives) stays
 
   -- a page's place, and what frame f names: f named no other page, and the page was Clear in no other frame
   module _ (f : Gppn) (hf : f .0 < s .frames) (lives : T (not (isEmpty (lifeOf (x .tables) d))))
@@ -197,9 +207,9 @@ module _ (s : Setup) (x : State) (sizes : Limited s) (h : Sound s x) (d : Asid) 
         → T (namesSound s (withNames f n (withPlace s d v q (withUsed used (x .tables)))) f n)
         → Sound s (record { tables = withNames f n (withPlace s d v q (withUsed used (x .tables))); saved = x .saved })
     moved-sound q n place names =
-        rewritten-sound s x sizes h d v hd hv r (set (t .frames) (f .0) (record { names = n })) used
+        rewritten-sound r (set (t .frames) (f .0) (record { names = n })) used
         (length-set (t .frames) (f .0) (record { names = n })) more fit
-        (owned-of s u d v r (owned-mapping s t d v (pageOf s t d v) (h .page d v hd hv)) place lives)
+        (owned-of s u d v r (owned-mapping s t d v (pageOf s t d v) (h .page d v (hd .domain) (hd .page))) place lives)
         (λ e w g y he hw ne c m. names-other t f n g (λ p. ne (free e w (rw (same-frame g f p) at m))) ∙ m)
         (λ g hg. at g hg (ℕ-discrete (g .0) (f .0)))
         (λ g past. rw (names-other t f n g (omega arith)) (h .frame-past g past))
@@ -217,13 +227,13 @@ module _ (s : Setup) (x : State) (sizes : Limited s) (h : Sound s x) (d : Asid) 
             → T (isClearIn g (placeOf s t e w)) → Dec (pageNumber s e w ≡ pageNumber s d v) → T (isClearIn g (placeOf s u e w))
         still g hg ne e w m c (yes p) =
             let b = named-within s t g e w (rw m at (h .frame g hg)) in
-            let k = number-one s e d w v (b .1) hv p in
+            let k = number-one s e d w v (b .1) (hd .page) p in
             absurd (ne (here g (rw (k .0, k .1) at c)))
         still g hg ne e w m c (no p) = rw (place-other s t d v r e w p) c
 
         at : (g : Gppn) → g .0 < s .frames → Dec (g .0 ≡ f .0) → T (namesSound s u g (namesOf u g))
         at g hg (yes p) =
-            rw (same-frame g f p, names-same t f n (omega (arith, h .shape .frames, sizes .frames))) names
+            rw (same-frame g f p, names-same t f n (omega (arith, h .shape .frames, accepted .looks .sizes .frames))) names
         at g hg (no ne) =
             rw (names-other t f n g ne)
             (names-kept s t u g (namesOf t g) (λ e w m c. still g hg ne e w m c (ℕ-discrete (pageNumber s e w) (pageNumber s d v)))

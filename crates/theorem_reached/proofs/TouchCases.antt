@@ -85,8 +85,7 @@ module _ (g : Given) (m : Machine) (accepted : Accepted g m) (f : Gppn) (hf : f 
           there w (record {
             frame = hf;
             within = hd;
-            names =
-                (accepted .looks .agrees .named d v f w (hd .domain) (hd .page) place) .1;
+            names = (accepted .looks .agrees .named d v f w (hd .domain) (hd .page) place) .1;
             place = place;
           })
       pick false q enough =
