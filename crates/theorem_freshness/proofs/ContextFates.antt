@@ -1,6 +1,5 @@
 -- What can become of a context in an event, and which of it each event does: it stays as it is, is freed, runs, or is kept with the
--- registers
--- that it brought.
+-- registers that it brought.
 use mathlib.Core.Path.{_≡_, refl, sym, ap, _∙_}
 use mathlib.Core.List.{List}
 use mathlib.Core.Bool.{Bool, true, false, cond}
@@ -117,7 +116,7 @@ module _ (g : Given) (m : Machine) (accepted : Accepted g m) (u : Ctc) (hu : u .
   turned-keeps d k words true q = (activity-here (Kept d k) (eqb-true _ _ q), saved-here (Kept d k) words (eqb-true _ _ q))
   turned-keeps d k words false q = turned-there (Kept d k) words (eqb-false _ _ q)
 
-  -- and its saved registers left
+  -- its activity changes, and its saved registers stay
   activity-runs : (d : Asid) (b : Bool) → sameContext u c ≡ b
       → ContextFate (cond b (runs d) same) m (onTables (withActivity u (Running d)) m) c
   activity-runs d true q = activity-here (Running d) (eqb-true _ _ q)
@@ -135,7 +134,7 @@ ended-context s d m c true q = ended-activity s d (m .tables) c ∙ rw q
 ended-context s d m c false q =
     (ended-activity s d (m .tables) c ∙ rw q, ap (λ (r : Registers). r .words) (ended-saved s d m (c .0)) ∙ rw q)
 
--- events on pages and frames let the contexts be
+-- events on pages and frames leave every context as it is
 bring-in-contexts : (g : Given) (f : Gppn) (d : Asid) (v : Gvpn) (m : Machine) (next : Machine → Effect)
     → ((n : Machine) → SameContexts n ((next n) .machine)) → SameContexts m ((andThen (bringIn g f d v m) next) .machine)
 unfolding andThen unveiled unveiledTables done failed
@@ -184,7 +183,7 @@ module _ (g : Given) (t : Tables) (new : List ℕ) (m : Machine) (accepted : Acc
   does-to-context (Trap u k mask) n =
       turned-keeps g m accepted u (context-below (g .setup) u n) c (domainOf t u) k (wordsIn 8 new) (sameContext u c) refl
 
--- what becomes of a context after it stayed as it was becomes of it from before
+-- what becomes of a context after it first stayed as it was
 after-same : (turn : ContextAct) (m q n : Machine) (c : Ctc) → ContextFate same m q c → ContextFate turn q n c → ContextFate turn m n c
 after-same same m q n c a b = (b .0 ∙ a .0, b .1 ∙ a .1)
 after-same freed m q n c a b = b

@@ -60,7 +60,7 @@ module _ (g : Given) (m : Machine) (h : List Past) (known : Known g m h) (c : Ct
   unfolding outset row touching onPage spanFits
   read-fits = leb→le _ _ ((each _ (p .granted .span)) .1 .0)
 
-  -- the page told by the context's domain
+  -- the page, by its context's domain in the tables
   module _ (private : (pageBy h d v) .private ≡ true) where
     is-private : isPublic (placeOf s (m .tables) d v) ≡ false
     is-private = not-true _ (sym ((known .pages d v read-within) .private) ∙ private)

@@ -43,7 +43,7 @@ brings-stop g f d v q accepted hd k place apart next =
     rw (brings-failed g f d v q k place apart)
     (refl, life-same (q .tables) d Stopped (omega (arith, accepted .looks .shapes .domains, accepted .looks .sizes .domains)))
 
--- a context that touches its own page, where nothing but its frame's bytes can speak against it
+-- a context touches its own page, and no check refuses it
 module _ (g : Given) (m : Machine) (w : Touch) (c : Ctc) (v : Gvpn) (x : Span) (new buffer : List ℕ)
     (ok : refusal g (outset m) (touch w c v x) (length new) (length buffer) ≡ 0) where
   abbrev d : Asid
@@ -76,7 +76,7 @@ module _ (g : Given) (m : Machine) (w : Touch) (c : Ctc) (v : Gvpn) (x : Span) (
       (sealAll-quiet g d v touch-within _ (outset m) (p .accepted) (seals-fit g (outset m) (length buffer) (touch w c v x) (length new) p)
       (p .granted .signatures))
 
-  -- the page is away, and its frame holds something else
+  -- the page is Sealed, and its frame holds anything but its signature
   module _ (k : ℕ) (place : placeOf (g .setup) (q .tables) d v ≡ Sealed k) where
     pub touch-stops : frameBytes (g .setup) (ownFrame (g .setup) (m .tables) c v) (touched g m (touch w c v x)) ≢ signature g k
         → Stops (domainOf (m .tables) c) (step g (touch w c v x) new buffer m)
@@ -90,7 +90,7 @@ module _ (g : Given) (m : Machine) (w : Touch) (c : Ctc) (v : Gvpn) (x : Span) (
         at reading place apart accepted hd = brings-stop g _ d v (touched g m (Read c v x)) accepted hd k place apart _
         at writing place apart accepted hd = brings-stop g _ d v (touched g m (Write c v x)) accepted hd k place apart _
 
-    -- such as a signature from before what it bears since
+    -- such as an older one, where whatever the page bore since is later and the signatures differ
     pub touch-replayed : Distinct g → (j : ℕ) → Since (g .setup) (domainOf (m .tables) c) v (j + 1) m
         → frameBytes (g .setup) (ownFrame (g .setup) (m .tables) c v) (touched g m (touch w c v x)) ≡ signature g j
         → Stops (domainOf (m .tables) c) (step g (touch w c v x) new buffer m)
@@ -103,7 +103,7 @@ module _ (g : Given) (m : Machine) (w : Touch) (c : Ctc) (v : Gvpn) (x : Span) (
         (λ same. distinct j k (omega (arith, accepted .looks .agrees .used)) (omega (arith, accepted .looks .agrees .used)) (omega arith)
         (sym held ∙ same))
 
--- After a write, a signature that the page bore before it.
+-- after a write, a signature that the page bore before it
 module _ (g : Given) (frames store : List ℕ) (started : startRefusal g frames store ≡ 0) (earlier between later : List Ask)
     (c : Ctc) (v : Gvpn) (x : Span) (new buffer : List ℕ) (j : ℕ) where
   abbrev before : Machine

@@ -61,7 +61,7 @@ module _ (g : Given) (m : Machine) (new : List ℕ) (space : ℕ) (context : Ctc
   abbrev Tells : Event → Type 0
   Tells e = Unrefused g m e (length new) space → Told (s .size) (actOf s t e new d v) x (pageAfter e new context d v x)
 
-  -- the page of a running context is told by its home
+  -- the page of a running context, by the domain that the past tells
   own-told : (c : Ctc) (w : Gvpn) → OwnPage s t c w → T (running t c)
       → sameNumber s (domainOf t c) w d v ≡ samePage ((context c) .home) w d v
   own-told c w own r = same-as s (domainOf t c) w d v (own .within) hd ∙ ap (λ (e : Asid). samePage e w d v) (sym (at-home c r))

@@ -174,7 +174,7 @@ outset-same : (m : Machine) (c : Ctc) → ContextFate same m (outset m) c
 unfolding outset
 outset-same m c = (refl, refl)
 
--- answer 8 comes of touching a page, which tells nothing of contexts
+-- only touching a page is answered 8, and that tells nothing of contexts
 touch-tells : (g : Given) (t : Tables) (e : Event) (new : List ℕ) (q : Machine) (before : Ctc → OfContext) (c : Ctc)
     → cond (eqb ((does g t e new q) .number) 0) (contextAfter e new before c) (before c) ≡ contextAfter e new before c
 unfolding does done contextAfter

@@ -1,5 +1,5 @@
--- Words for a page that comes back stale: a context that touches its own page, the signature that the page bears, and what it is that a
--- domain stops.
+-- Words for a page that comes back stale: a context that touches its own page, the signature that the page bears, and when its domain
+-- stops.
 use mathlib.Core.Path.{_≡_}
 use mathlib.Core.Logic.{_≢_}
 use mathlib.Core.Bool.{Bool, false}

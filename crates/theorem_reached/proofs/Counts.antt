@@ -77,7 +77,7 @@ does-counts g t (Write c v x) new m =
     bring-in-counts g (ownFrame (g .setup) t c v) (domainOf t c) v m _ (λ n. same n _ refl refl refl) (λ n. refl)
 does-counts g t (Trap c k mask) new m = same m _ refl refl refl
 
--- sealing counts itself
+-- what sealing counts
 seal-counts : (g : Given) (f : Gppn) (m : Machine) → ((seal g f m) .seals ≤ m .seals + 1) × ((seal g f m) .unveils ≡ m .unveils)
 unfolding sealPage
 seal-counts g f m =

@@ -61,7 +61,7 @@ pub run-always-10 : (g : Given) (frames store : List ℕ) → startRefusal g fra
 run-always-10 g frames store ten asks a =
     rw (run-refused g frames store ten asks) (step-refused g frames store ten (a .event) (a .new) (a .buffer))
 
--- a clean page's frame and slot
+-- the frame and the slot of a clean page agree
 after-clean : (g : Given) (d : Asid) (v : Gvpn) → Within (g .setup) d v → (asks : List Ask) (m : Machine) → CleanAt (g .setup) d v m
     → CleanAt (g .setup) d v (after g m asks)
 unfolding after

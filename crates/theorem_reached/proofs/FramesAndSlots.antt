@@ -1,6 +1,5 @@
--- What single rules leave in frames and slots: a seal keeps the page's bytes in its slot, an unveil brings them back, a page that is
--- cloaked
--- is zero, the end of a domain leaves other frames. Secrecy and freshness rest on these facts, and a slip in a rule makes its fact false.
+-- What single rules leave in frames and slots: a seal keeps the page's bytes in its slot, an unveil brings them back, a cloaked page is
+-- zero, and the end of a domain leaves other frames. Secrecy and freshness rest on these facts; a slip in a rule makes its fact false.
 use mathlib.Core.Path.{_≡_, refl, sym, ap, _∙_}
 use mathlib.Core.Logic.{_≢_}
 use mathlib.Core.List.{List, [], _∷_}
@@ -41,7 +40,7 @@ pub frame-whole : (s : Setup) (f : Gppn) (m : Machine) → f .0 < s .frames → 
     → length (frameBytes s f m) ≡ s .size
 frame-whole s f m hf e = length-part (s .size) (f .0) (m .frames) (part-fits (s .size) (f .0) (s .frames) hf e)
 
--- either that a frame is filled with, zeros or what a frame held, is a whole page
+-- what a frame is filled with, zeros or what it held before, is a whole page
 pub whole-page : (p k : ℕ) (bytes : List ℕ) → k * p + p ≤ length bytes → (length (zeros p) ≡ p) × (length (part p k bytes) ≡ p)
 whole-page p k bytes h = (length-zeros p, length-part p k bytes h)
 

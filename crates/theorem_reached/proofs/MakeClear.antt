@@ -1,6 +1,5 @@
 -- Making a page Clear in a frame that names none, which unveiling and cloaking do, and filling a frame: what then stands in the page's
--- record
--- and frame and in all others, and that the machine stays acceptable.
+-- record and frame and in all others, and that the machine stays acceptable.
 use mathlib.Core.Path.{_≡_, refl}
 use mathlib.Core.Logic.{_≢_}
 use mathlib.Core.List.{List}

@@ -1,6 +1,5 @@
--- What can become of a page in an event, and which of it each event does. The page's bytes stay as they are, though they may move between
--- its frame and its slot; or it is cloaked, made Public or written. All that holds of a page in every reached state is shown by cases on
--- these.
+-- What can become of a page in an event, and which of it each event does: the page's bytes stay as they are, though they may move between
+-- its frame and its slot; or it is cloaked, made Public or written. What holds of a page in every reached state is shown by these cases.
 use mathlib.Core.Path.{_≡_, sym, ap, _∙_, refl}
 use mathlib.Core.List.{List, [], _∷_}
 use mathlib.Core.Bool.{Bool, cond, true, false, true≢false}
@@ -58,7 +57,7 @@ pub data Fate (s : Setup) (d : Asid) (v : Gvpn) (m n : Machine) : Act → Type 0
 unfoldable pub sameNumber : Setup → Asid → Gvpn → Asid → Gvpn → Bool
 sameNumber s d v e w = eqb (pageNumber s d v) (pageNumber s e w)
 
--- so they do where frames are sealed
+-- the page's bytes stay as they are where frames are sealed
 module _ (g : Given) (d : Asid) (v : Gvpn) (hd : Within (g .setup) d v) where
   pub seal-quiet : (f : Gppn) (m : Machine) → Accepted g m → f .0 < g .setup .frames → Room g f m → Quiet (g .setup) d v m (seal g f m)
   seal-quiet f m accepted hf room =
@@ -83,7 +82,7 @@ module _ (g : Given) (d : Asid) (v : Gvpn) (hd : Within (g .setup) d v) where
       and-then (seal-quiet f m accepted (fit .0) (room-first g f fs m enough))
       (sealAll-quiet fs (seal g f m) (first-accepted g f fs m accepted fit enough) (fit .1) (room-rest g f fs m accepted fit enough))
 
--- a clean page's frame and slot agree still
+-- the frame and the slot of a clean page still agree after each of these
 unfoldable pub CleanAt : Setup → Asid → Gvpn → Machine → Type 0
 CleanAt s d v m = (f : Gppn) (k : ℕ) → placeOf s (m .tables) d v ≡ Clear f (Clean k) → frameBytes s f m ≡ slotBytes s d v m
 
@@ -135,13 +134,13 @@ actOf s t (Write c v x) new e w =
     cond (isPublic (ownPlace s t c v)) kept (cond (sameNumber s (domainOf t c) v e w) (put (x .off) new) kept)
 actOf s t (Trap c k mask) new e w = kept
 
--- an effect that leaves an acceptable machine, and has done the acts if it was not answer 8
+-- an effect leaves an acceptable machine, and does to each page what the act says, or, answered 8, leaves its bytes as they are
 pub record Did (g : Given) (m : Machine) (act : Asid → Gvpn → Act) (e : Effect) : Type 0 where
   pub accepted : Accepted g (e .machine)
   pub fate : (d : Asid) (v : Gvpn) → Within (g .setup) d v
       → Fate (g .setup) d v m (e .machine) (cond (eqb (e .number) 0) (act d v) kept)
 
--- an effect upon a machine whose frames in the way are sealed is one upon the machine before
+-- what becomes of a page after its bytes first stayed as they are
 pub after-quiet : (s : Setup) (d : Asid) (v : Gvpn) (m q n : Machine) (a : Act) → Quiet s d v m q → Fate s d v q n a → Fate s d v m n a
 after-quiet s d v m q n a moved (is-kept h) = is-kept (and-then moved h)
 after-quiet s d v m q n a moved (is-zeroed f p b) = is-zeroed f p b

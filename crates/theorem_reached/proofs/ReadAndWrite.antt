@@ -103,7 +103,7 @@ module _ (g : Given) (m : Machine) where
     unfoldable pub writes : Span → List ℕ → Asid → Gvpn → Act
     writes x new e w = cond (isPublic (placeOf s t d v)) kept (cond (sameNumber s d v e w) (put (x .off) new) kept)
 
-    -- stored where the page is, once it is there
+    -- bytes stored to the page, Clear in the frame
     did-put : (x : Span) (new : List ℕ) → isPublic (placeOf s t d v) ≡ false → (o : Machine) → Accepted g o
         → ((e : Asid) (w : Gvpn) → Within s e w → Quiet s e w m o) → (y : Wear) → Holds s (o .tables) f d v y
         → Did g m (writes x new) (done (markedDirty s d v (storeSpan s f x new o)) [])
@@ -125,7 +125,7 @@ module _ (g : Given) (m : Machine) where
             is-kept (and-then (moved e w he)
             (is-same (stored-stays g o o-accepted f hf x new d v y holds e w he (λ r. eqb-false _ _ p (sym r)))))
 
-    -- stored to the frame of a Public page
+    -- bytes stored to the frame of a Public page
     did-shared : (x : Span) (new : List ℕ) → placeOf s (q .tables) d v ≡ Public → namesOf (q .tables) f ≡ Nothing
         → Did g m (writes x new) (done (markedDirty s d v (storeSpan s f x new q)) [])
     unfolding writes

@@ -107,7 +107,7 @@ module _ (g : Given) (frames store : List ℕ) where
         (e .1 .1 .1 .0, tt),
       )))
 
-  -- refused, it leaves the lent bytes, and no event is acceptable
+  -- a refused start leaves the lent bytes, and the machine is not acceptable
   start-refused : startRefusal g frames store ≡ 10 → start g frames store ≡ machine freshState frames store
   unfolding start
   start-refused ten = rw ten

@@ -164,7 +164,7 @@ enter-alike g m n a f d v w x y hm hn k l e =
         enter-frames g m f d v w x hm k h ne ∙ a .bare h hh (sym (enter-names g m f d v w x hm k h ne) ∙ q) ∙ sym
         (enter-frames g n f d v w y hn l h ne)
 
--- the end of a domain: the frames that it lets go are zero in both
+-- the end of a domain: the frames of its pages are zero in both
 pub ended-alike : (g : Given) (m n : Machine) → Accepted g m → Accepted g n → Alike (g .setup) m n → (d : Asid) → d .0 < g .setup .domains
     → Alike (g .setup) (ended (g .setup) d m) (ended (g .setup) d n)
 unfolding ended

@@ -1,6 +1,5 @@
 -- Main.antt holds the theorems, and Example.antt two runs that meet their premises. The files under them go from single operations, by
--- events,
--- to whole runs; each says at its head what it shows.
+-- events, to whole runs; each says at its head what it shows.
 pub mod FreedFrames
 pub mod Alike
 pub mod ShownRegisters

@@ -32,7 +32,7 @@ outset-alike : (s : Setup) (m n : Machine) → Alike s m n → Alike s (outset m
 unfolding outset
 outset-alike s m n a = record { tables = a .tables; seals = refl; unveils = refl; bare = a .bare }
 
--- the same is refused
+-- two acceptable machines with the same tables refuse an event by the same check
 refusal-alike : (g : Given) (m n : Machine) → Accepted g m → Accepted g n → m .tables ≡ n .tables → (e : Event) (new room : ℕ)
     → refusal g m e new room ≡ refusal g n e new room
 unfolding refusal
@@ -53,7 +53,7 @@ told-same s t e o p h = λ i. says (h .number i) (h .seals i) (h .unveils i) (h 
     bytes true q = refl
     bytes false q = h .bytes q
 
--- the answers, and the machines after it
+-- the same answer, and machines that are alike after it
 pub record AlikeAfter (s : Setup) (t : Tables) (e : Event) (o p : Outcome) : Type 0 where
   pub answer : SameAnswer s t e o p
   pub machine : Alike s (o .machine) (p .machine)
