@@ -90,50 +90,59 @@ module _ (s : Setup) (x : State) (ok : T (sound s x)) where
   sound-facts =
       let e = each _ ok in
       let t = x .tables in
+      let tables = e .1 .1 in
+      let contexts = tables .1 .0 in
+      let saved = tables .1 .1 .0 in
+      let pages = tables .1 .1 .1 .0 in
+      let frames = tables .1 .1 .1 .1 .0 in
       record {
         shape = shaped x (e .0);
         used = leb→le _ _ (e .1 .0);
         domain-past =
             λ d h.
             let w = le-ltb (d .0) (s .domains) h in
-            everywhere (domainSound s) emptyDomain (t .domains) (e .1 .1 .0) (d .0) (λ r. isEmpty (r .life)) (λ r. rw w) tt;
+            everywhere (domainSound s) emptyDomain (t .domains) (tables .0) (d .0) (λ r. isEmpty (r .life)) (λ r. rw w) tt;
         context =
             λ c h.
             let w = lt-ltb (c .0) (s .contexts) h in
-            everywhere (contextSound s t) freeContext (t .contexts) (e .1 .1 .1 .0) (c .0) (λ r. activitySound s t (r .activity)) (λ r. rw w) tt;
+            everywhere (contextSound s t) freeContext (t .contexts) contexts (c .0) (λ r. activitySound s t (r .activity)) (λ r. rw w) tt;
         context-past =
             λ c h.
             let w = le-ltb (c .0) (s .contexts) h in
-            everywhere (contextSound s t) freeContext (t .contexts) (e .1 .1 .1 .0) (c .0) (λ r. isFree (r .activity)) (λ r. rw w) tt;
+            everywhere (contextSound s t) freeContext (t .contexts) contexts (c .0) (λ r. isFree (r .activity)) (λ r. rw w) tt;
         saved-past =
             λ i h.
             let w = le-ltb i (s .contexts) h in
-            everywhere (savedSound s) zeroRegisters (x .saved) (e .1 .1 .1 .1 .0) i (λ r. sameBytes (r .words) (zeros 8)) (λ r. rw w) tt;
+            everywhere (savedSound s) zeroRegisters (x .saved) saved i (λ r. sameBytes (r .words) (zeros 8)) (λ r. rw w) tt;
         page =
             λ d v hd hv.
             let w = lt-ltb (pageNumber s d v) (s .domains * s .pages) (number-in s d v hv hd) in
-            everywhere (pageSound s t) publicPage (t .pages) (e .1 .1 .1 .1 .1 .0) (pageNumber s d v) (ownedSound s t d v)
+            everywhere (pageSound s t) publicPage (t .pages) pages (pageNumber s d v) (ownedSound s t d v)
             (λ r. rw (w, number-domain s d v hv, number-page s d v hv)) (owned-public s t d v);
         page-past =
             λ i h.
             let w = le-ltb i (s .domains * s .pages) h in
-            everywhere (pageSound s t) publicPage (t .pages) (e .1 .1 .1 .1 .1 .0) i untouched (λ r. rw w) untouched-public;
+            everywhere (pageSound s t) publicPage (t .pages) pages i untouched (λ r. rw w) untouched-public;
         frame =
             λ f h.
             let w = lt-ltb (f .0) (s .frames) h in
-            everywhere (frameSound s t) openFrame (t .frames) (e .1 .1 .1 .1 .1 .1 .0) (f .0) (λ r. namesSound s t f (r .names)) (λ r. rw w) tt;
+            everywhere (frameSound s t) openFrame (t .frames) frames (f .0) (λ r. namesSound s t f (r .names)) (λ r. rw w) tt;
         frame-past =
             λ f h.
             let w = le-ltb (f .0) (s .frames) h in
-            everywhere (frameSound s t) openFrame (t .frames) (e .1 .1 .1 .1 .1 .1 .0) (f .0) (λ r. namesNone (r .names)) (λ r. rw w) tt;
+            everywhere (frameSound s t) openFrame (t .frames) frames (f .0) (λ r. namesNone (r .names)) (λ r. rw w) tt;
       }
 
 -- and back to them
 whole-of : (x : State) → Shaped x → T (whole x)
 unfolding whole
 whole-of x h =
-    all _
-    (passed _ (eq-eqb _ _ (h .domains)), (passed _ (eq-eqb _ _ (h .contexts)), (passed _ (eq-eqb _ _ (h .saved)), (passed _ (eq-eqb _ _ (h .pages)), (passed _ (eq-eqb _ _ (h .frames)), tt)))))
+    let domains = passed _ (eq-eqb _ _ (h .domains)) in
+    let contexts = passed _ (eq-eqb _ _ (h .contexts)) in
+    let saved = passed _ (eq-eqb _ _ (h .saved)) in
+    let pages = passed _ (eq-eqb _ _ (h .pages)) in
+    let frames = passed _ (eq-eqb _ _ (h .frames)) in
+    all _ (domains, (contexts, (saved, (pages, (frames, tt)))))
 
 module _ (s : Setup) (x : State) (some : 1 ≤ s .pages) (h : Sound s x) where
   domains-of : (i : ℕ) → Dec (i < s .domains) → T (domainSound s i (getD (x .tables .domains) i emptyDomain))

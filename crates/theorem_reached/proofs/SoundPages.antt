@@ -97,7 +97,8 @@ module _ (g : Given) (m : Machine) (accepted : Accepted g m) (d : Asid) (v : Gvp
   pub number-long : pageNumber s d v < length (x .tables .pages)
   number-long =
       let sizes = accepted .looks .sizes in
-      omega (arith, accepted .looks .shapes .pages, number-within s d v (hd .page) maxDomains maxPages (sizes .domains) (sizes .pages) (hd .domain))
+      let within = number-within s d v (hd .page) maxDomains maxPages (sizes .domains) (sizes .pages) (hd .domain) in
+      omega (arith, accepted .looks .shapes .pages)
 
   -- a page that is not Public is in a domain that is not Empty
   pub private-lives : T (not (isPublic (placeOf s (m .tables) d v))) → T (not (isEmpty (lifeOf (m .tables) d)))
@@ -188,14 +189,16 @@ module _ (g : Given) (m : Machine) (accepted : Accepted g m) (d : Asid) (v : Gvp
       → Sound s (record { tables = withMapping s d v y (x .tables); saved = x .saved })
   mapping-sound y ok lives =
       let r : PageRecord = record { mapping = y; place = placeOf s (x .tables) d v } in
-      replaced-sound r (owned-of s (x .tables) d v r ok (owned-place s (x .tables) d v _ (h .page d v (hd .domain) (hd .page))) lives) (λ f c. c)
+      let place = owned-place s (x .tables) d v _ (h .page d v (hd .domain) (hd .page)) in
+      replaced-sound r (owned-of s (x .tables) d v r ok place lives) (λ f c. c)
 
   pub place-replaced : (q : Place) → T (placeSound s (x .tables) d v q) → T (not (isEmpty (lifeOf (x .tables) d)))
       → ((f : Gppn) → T (isClearIn f (placeOf s (x .tables) d v)) → T (isClearIn f q))
       → Sound s (record { tables = withPlace s d v q (x .tables); saved = x .saved })
   place-replaced q ok lives stays =
       let r : PageRecord = record { mapping = mappingOf s (x .tables) d v; place = q } in
-      replaced-sound r (owned-of s (x .tables) d v r (owned-mapping s (x .tables) d v _ (h .page d v (hd .domain) (hd .page))) ok lives) stays
+      let mapping = owned-mapping s (x .tables) d v _ (h .page d v (hd .domain) (hd .page)) in
+      replaced-sound r (owned-of s (x .tables) d v r mapping ok lives) stays
 
   -- a page's place, and what frame f names: f named no other page, and the page was Clear in no other frame
   module _ (f : Gppn) (hf : f .0 < s .frames) (lives : T (not (isEmpty (lifeOf (x .tables) d))))
