@@ -42,18 +42,21 @@ use Rattle.theorem_reached.proofs.Counts.{seals-fit}
 use Rattle.theorem_reached.proofs.EndOfDomain.{ended-activity, ended-saved}
 use Rattle.theorem_freshness.specs.Past.{sameContext}
 
+-- what an event does to a context
 pub data ContextAct : Type 0 where
   same : ContextAct
   freed : ContextAct
   runs : Asid → ContextAct
   keeps : Asid → TrapKind → List ℕ → ContextAct
 
+-- and how the context then stands in machine n, the event being asked of machine m
 abbrev pub ContextFate : ContextAct → Machine → Machine → Ctc → Type 0
 ContextFate same m n c = (activityOf (n .tables) c ≡ activityOf (m .tables) c) × (savedOf n c ≡ savedOf m c)
 ContextFate freed m n c = activityOf (n .tables) c ≡ Free
 ContextFate (runs d) m n c = activityOf (n .tables) c ≡ Running d
 ContextFate (keeps d k words) m n c = (activityOf (n .tables) c ≡ Kept d k) × (savedOf n c ≡ words)
 
+-- what each event, with data new, does to context c
 unfoldable pub contextActOf : Tables → Event → List ℕ → Ctc → ContextAct
 contextActOf t (Begin d u) new c = cond (sameContext u c) (runs d) same
 contextActOf t (End d) new c = cond (isIn d (activityOf t c)) freed same
@@ -184,7 +187,7 @@ module _ (g : Given) (t : Tables) (new : List ℕ) (m : Machine) (accepted : Acc
       turned-keeps g m accepted u (context-below (g .setup) u n) c (domainOf t u) k (wordsIn 8 new) (sameContext u c) refl
 
 -- what becomes of a context after it first stayed as it was
-after-same : (turn : ContextAct) (m q n : Machine) (c : Ctc) → ContextFate same m q c → ContextFate turn q n c → ContextFate turn m n c
+after-same : (act : ContextAct) (m q n : Machine) (c : Ctc) → ContextFate same m q c → ContextFate act q n c → ContextFate act m n c
 after-same same m q n c a b = (b .0 ∙ a .0, b .1 ∙ a .1)
 after-same freed m q n c a b = b
 after-same (runs d) m q n c a b = b

@@ -40,8 +40,7 @@ use Rattle.theorem_freshness.proofs.ToldContexts.{KnownContext}
 
 -- a page brought in and read
 module _ (g : Given) (m : Machine) (accepted : Accepted g m) (f : Gppn) (hf : f .0 < g .setup .frames) (d : Asid) (v : Gvpn)
-    (hd : Within (g .setup) d v)
-    (enough : Enough g (sealedFirst f (placeOf (g .setup) (m .tables) d v)) m)
+    (hd : Within (g .setup) d v) (enough : Enough g (sealedFirst f (placeOf (g .setup) (m .tables) d v)) m)
     (private : isPublic (placeOf (g .setup) (m .tables) d v) ≡ false) (x : Span) where
   abbrev s : Setup
   s = g .setup
@@ -61,14 +60,14 @@ module _ (g : Given) (m : Machine) (accepted : Accepted g m) (f : Gppn) (hf : f 
   pub brought-in-read : given (andThen (bringIn g f d v q) (λ n. done n (spanBytes s f x n)))
   unfolding andThen done failed
   brought-in-read =
-      bring-in-either g q (sealed-first-accepted g m accepted f hf d v hd enough) f hf d v hd (touch-case g m accepted f hf d v hd enough)
+      let sealed = sealed-first-accepted g m accepted f hf d v hd enough in
+      let quiet = sealed-first-quiet g m accepted f hf d v hd enough d v hd in
+      bring-in-either g q sealed f hf d v hd (touch-case g m accepted f hf d v hd enough)
       (λ e. given (andThen e (λ n. done n (spanBytes s f x n))))
-      (λ place _. absurd (true≢false
-      (sym (ap isPublic place) ∙ quiet-public s d v m q (sealed-first-quiet g m accepted f hf d v hd enough d v hd) ∙ private)))
-      (λ w holds. there q w holds (sealed-first-quiet g m accepted f hf d v hd enough d v hd))
+      (λ place _. absurd (true≢false (sym (ap isPublic place) ∙ quiet-public s d v m q quiet ∙ private)))
+      (λ w holds. there q w holds quiet)
       (λ k place none _.
-      there (unveiled g f d v k q) (Clean k)
-      (opened-holds g q (sealed-first-accepted g m accepted f hf d v hd enough) f hf d v hd k place none)
+      there (unveiled g f d v k q) (Clean k) (opened-holds g q sealed f hf d v hd k place none)
       (opened-quiet g m accepted f hf d v hd enough k place none d v hd))
       (λ _ _ _ _ e. absurd (suc-ne-zero 7 e))
 

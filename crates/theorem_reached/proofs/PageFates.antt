@@ -40,13 +40,14 @@ pub data Quiet (s : Setup) (d : Asid) (v : Gvpn) : Machine → Machine → Type 
       → frameBytes s f n ≡ slotBytes s d v m → slotBytes s d v n ≡ slotBytes s d v m → m .tables .used ≤ n .tables .used → Quiet s d v m n
   and-then : {m n o : Machine} → Quiet s d v m n → Quiet s d v n o → Quiet s d v m o
 
+-- what an event does to a page
 pub data Act : Type 0 where
   kept : Act
   zeroed : Act
   dropped : Act
   put : ℕ → List ℕ → Act
 
--- cloaked, it is zero; dropped, it is Public; written, its bytes have new ones laid over them and it is dirty
+-- and how the page then stands: cloaked, it is zero; dropped, it is Public; written, its bytes have new ones laid over them and it is dirty
 pub data Fate (s : Setup) (d : Asid) (v : Gvpn) (m n : Machine) : Act → Type 0 where
   is-kept : Quiet s d v m n → Fate s d v m n kept
   is-zeroed : (f : Gppn) → placeOf s (n .tables) d v ≡ Clear f Dirty → frameBytes s f n ≡ zeros (s .size) → Fate s d v m n zeroed
@@ -69,8 +70,8 @@ module _ (g : Given) (d : Asid) (v : Gvpn) (hd : Within (g .setup) d v) where
       at e x w held (yes p) =
           let k = number-one (g .setup) d e v x (hd .page) (held .within .page) p in
           let room′ = room-held g f m e x w room held in
-          rw (k .0, k .1) (is-sealed f w (held .place) (sealed-place g f e x w m accepted held room′)
-          (sealed-slot g f e x w m accepted held room′)
+          rw (k .0, k .1)
+          (is-sealed f w (held .place) (sealed-place g f e x w m accepted held room′) (sealed-slot g f e x w m accepted held room′)
           (sealed-used g f e x w m accepted held room′))
       at e x w held (no ne) = is-same (sealed-stays g f e x w m accepted held (room-held g f m e x w room held) d v hd ne)
 
@@ -116,7 +117,7 @@ is-public Public e = refl
 is-public (Clear f w) e = absurd (true≢false (sym e))
 is-public (Sealed k) e = absurd (true≢false (sym e))
 
--- what an event does to a page's bytes
+-- what each event, with data new, does to page e, w
 unfoldable pub actOf : Setup → Tables → Event → List ℕ → Asid → Gvpn → Act
 actOf s t (Begin d c) new e w = kept
 actOf s t (End d) new e w = cond (eqb (e .0) (d .0)) dropped kept
