@@ -30,7 +30,7 @@ load-front s k h long b =
     let bits : 64 - 8 * k ≡ 8 * j = omega arith in
     let size : length rest ≡ j = length-take-le j (drop k s) (omega (arith, length-drop k s)) in
     let below : number rest < 256 ^ j =
-        rw size at (number-below rest (bytes-take j (drop k s) (bytes-drop k s b))) in
+    rw size at (number-below rest (bytes-take j (drop k s) (bytes-drop k s b))) in
     ap₂ (λ (x y : ℕ). number (take x s) / 2 ^ y) both bits
     ∙ rw (take-add k j s, number-append, size, bits-of-bytes j) (digits-div (number (take k s)) below)
 

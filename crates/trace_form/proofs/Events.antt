@@ -1,8 +1,8 @@
 -- Kinds and fields against events, both ways: an event is the one of its kind and its fields, and the event of a kind and
--- of fields that fit it has that kind and those fields. Assumes nothing.
+-- of fields that fit it has that kind and those fields.
 use mathlib.Core.Path.{_≡_, refl, sym, ap, subst, _∙_}
 use mathlib.Core.Logic.{⊎-elim}
-use Prim.Native.Nat.{ℕ, zero, suc, _+_, _-_, _^_, _≤_, _<_}
+use Prim.Native.Nat.{ℕ, zero, suc, _-_, _^_, _≤_, _<_}
 use native.Mathlib.Nat.{eq-or-lt-of-le, le-of-suc-le-suc, not-suc-le-zero}
 use native.Mathlib.Omega.{arith}
 use lib.Arith.{lt-one}
@@ -13,7 +13,8 @@ use Rattle.rules.specs.declared.Span.{Span}
 use Rattle.rules.specs.declared.TrapKind.{TrapKind}
 use Rattle.rules.specs.declared.TrapKind.the-variants.{Interrupt, Call}
 use Rattle.rules.specs.declared.Event.{Event}
-use Rattle.rules.specs.declared.Event.the-variants.{Begin, End, Map, Unmap, KernelRead, KernelWrite, Resume, Spawn, Leave, Cloak, Uncloak, Read, Write, Trap}
+use Rattle.rules.specs.declared.Event.the-variants.{Begin, End, Map, Unmap, KernelRead, KernelWrite, Resume, Spawn, Leave}
+use Rattle.rules.specs.declared.Event.the-variants.{Cloak, Uncloak, Read, Write, Trap}
 use Rattle.trace_form.specs.Form.{numbers, withSpan, widthsOf, trapNumber, trapOf, noSpan, fields, fieldsOf, events, eventOf}
 use Rattle.trace_form.specs.Bounds.{Within}
 use Rattle.trace_form.specs.declared.Form.{Form}

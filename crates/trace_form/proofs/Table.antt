@@ -1,7 +1,7 @@
--- The table of widths: which row a kind has, and what every row keeps to, in every right form. Assumes nothing.
+-- The table of widths: which row a kind has, and what every row keeps to, in every right form.
 use mathlib.Core.Path.{_≡_, sym, ap}
 use mathlib.Core.List.{List, [], _∷_}
-use Prim.Native.Nat.{ℕ, zero, suc, _+_, _≤_, _<_, zero-le}
+use Prim.Native.Nat.{ℕ, zero, suc, _≤_, zero-le}
 use native.Mathlib.Omega.{arith}
 use lib.Arith.{lt-of-le-ne}
 use lib.ListN.{getD, List·getD-eq-default}

@@ -1,10 +1,10 @@
--- `trace_form::fields_of` meets its contract: each arm is a case of `fieldsOf`.
+-- `Fields::of` meets its contract: each arm is a case of `fieldsOf`.
 use mathlib.Core.Path.{sym, ap, _∙_}
 use Prim.Native.Nat.{ℕ}
 use borrow.Author.Needs.{needs}
 use Rattle.trace_form.specs.Form.{fields, noSpan, fieldsOf}
-use Rattle.trace_form.proofs.fields_of.Statement.{statement}
-use Rattle.trace_form.proofs.fields_of.Tie as tie
+use Rattle.trace_form.proofs.Fields.of.Statement.{statement}
+use Rattle.trace_form.proofs.Fields.of.Tie as tie
 
 returns : tie.Need-returns
 returns c = c .plain .ensures ∙ sym (ap fieldsOf (c .before .before .event .given .1))
@@ -52,8 +52,8 @@ returns-14 c =
     ∙ ap (λ (x : ℕ). fields (e .0 .0 .0) x (e .0 .1 .1 .0) noSpan) (c .before .trap-number .ensures)
     ∙ sym (ap fieldsOf (e .1))
 
-pub fields-of-spec : {M : Type 1} → statement M
-fields-of-spec =
+pub of-spec : {M : Type 1} → statement M
+of-spec =
     tie.close
     (tie.spec
     (λ c. search needs)

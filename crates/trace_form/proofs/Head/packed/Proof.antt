@@ -1,16 +1,16 @@
--- `trace_form::packed` meets its contract: each field fits, and all of them fit 48 bits.
+-- `Head::packed` meets its contract: each field fits, and all of them fit 48 bits.
 use mathlib.Core.Path.{_≡_}
 use Prim.Native.Nat.{_+_}
 use native.Mathlib.Omega.{arith}
 use lib.Pow.{pow-pos}
 use borrow.Author.Needs.{needs}
 use Rattle.trace_bits.proofs.Laws.{longer}
-use Rattle.trace_form.proofs.packed.Statement.{statement}
-use Rattle.trace_form.proofs.packed.Tie as tie
+use Rattle.trace_form.proofs.Head.packed.Statement.{statement}
+use Rattle.trace_form.proofs.Head.packed.Tie as tie
 
 -- the bits of the kind and the three numbers
 so-far : (c : tie.After-with4) →
-    let h = c .before .before .before .before .before .before .before .before .before .args .head in
+    let h = c .before .before .before .before .before .before .before .before .before .args .self in
     c .with4 .result .bits ≡ h .kind + h .widths .first + h .widths .second + h .widths .third
 so-far c =
     let w3 = c .before .before in
@@ -55,7 +55,7 @@ with-requires-7 c κs =
     let s = w4 .before .before .before .before .before .before .before .before .before in
     record {
       sized = c .with6 .ensures .sized;
-      fits = pow-pos (s .args .head .padding);
+      fits = pow-pos (s .args .self .padding);
       room =
           omega (arith, so-far w4, w5 .with5 .ensures .bits, c .with6 .ensures .bits, s .pre .0 .whole, s .pre .0 .few);
     }
