@@ -1,4 +1,4 @@
--- Each exported function's promise leaves one answer, and one list of bytes or numbers where it writes. Assumes nothing.
+-- Each exported function's promise leaves one answer, and one list of bytes or numbers where it writes.
 use mathlib.Core.Path.{sym, _∙_}
 use mathlib.Core.List.{List}
 use Prim.Native.Nat.{ℕ}

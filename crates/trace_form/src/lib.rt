@@ -26,9 +26,12 @@ pub struct Form {
 impl Form {
     pub const FIRST: Form = Form {
         kind: 4,
-        context: 4,
+        context: Form::CONTEXT,
         kinds: 14,
     };
+
+    // The bits of a context in the first form.
+    pub const CONTEXT: usize = 4;
 
     // The bits of the fields that no form changes.
     pub const DOMAIN: usize = 3;

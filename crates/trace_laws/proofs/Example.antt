@@ -1,5 +1,5 @@
 -- Document 01's example trace, by computation: reading it gives its five records, and writing them gives its bytes; and what
--- the reader and the writer refuse, one case for each reason. Assumes nothing.
+-- the reader and the writer refuse, one case for each reason.
 use mathlib.Core.Path.{_≡_, refl}
 use mathlib.Core.List.{List, [], _∷_, _++_, map}
 use Prim.Native.Nat.{ℕ}

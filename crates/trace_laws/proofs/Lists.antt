@@ -1,5 +1,5 @@
 -- Records one after the other, to the end, in every right form: reading them and writing them undo each other, and reading
--- comes to an end. Assumes nothing.
+-- comes to an end.
 use mathlib.Core.Path.{_≡_, refl, sym, ap, ap₂, subst, _∙_}
 use mathlib.Core.Logic.{_⊎_, inl, inr}
 use mathlib.Core.Bool.{Bool, true, false, cond}

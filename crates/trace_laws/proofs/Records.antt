@@ -1,4 +1,4 @@
--- One record: what is known of one that was read, and both round trips, in every right form. Assumes nothing.
+-- One record: what is known of one that was read, and both round trips, in every right form.
 use mathlib.Core.Path.{_≡_, refl, sym, ap, ap₂, subst, subst₂, _∙_}
 use mathlib.Core.Bool.{Bool, true, false, cond}
 use mathlib.Core.List.{List, [], _∷_, _++_, append-assoc}

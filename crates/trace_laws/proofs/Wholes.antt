@@ -1,4 +1,4 @@
--- Whole traces in document 01's form: the header and its signatures in front of the records. Assumes nothing.
+-- Whole traces in document 01's form: the header and its signatures in front of the records.
 use mathlib.Core.Path.{_≡_, refl, sym, ap, ap₂, subst, _∙_}
 use mathlib.Core.Logic.{_⊎_, inl, inr}
 use mathlib.Core.Bool.{Bool, true, false, cond}

@@ -1,5 +1,5 @@
 -- What the walks over a `Reader` share: its type at the lifetime of a signature, the machine value that it has, and that what
--- it owns, which may be had twice, gives what its slice owns beside all of it. Assumes nothing.
+-- it owns, which may be had twice, gives what its slice owns beside all of it.
 use mathlib.Core.Path.{_≡_}
 use Prim.Native.Nat.{ℕ}
 use mathlib.Core.List.{[], _∷_}

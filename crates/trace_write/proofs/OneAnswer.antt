@@ -1,4 +1,4 @@
--- Each public function's promise leaves one answer: one number, one count and one output. Assumes nothing.
+-- Each public function's promise leaves one answer: one number, one count and one output.
 use mathlib.Core.Path.{sym, _∙_}
 use denote.Ref.{now}
 use Rattle.trace_bits.proofs.Promise.{OneSight}

@@ -1,4 +1,4 @@
--- What writing leaves: the head's bytes and those behind it over the output's front, or the output as it was. Assumes nothing.
+-- What writing leaves: the head's bytes and those behind it over the output's front, or the output as it was.
 use mathlib.Core.Path.{_≡_, refl, sym, ap, ap₂, subst₂, _∙_}
 use mathlib.Core.List.{List, [], _∷_, _++_, append-assoc, append-nil}
 use Prim.Native.Nat.{ℕ, _+_, _-_, _≤_, _<_, _^_}

@@ -1,4 +1,4 @@
--- Which number the writer's checks give, by the tests that the code made; and what is known where it is 0. Assumes nothing.
+-- Which number the writer's checks give, by the tests that the code made; and what is known where it is 0.
 use mathlib.Core.Path.{_≡_, refl, sym, ap, subst, _∙_}
 use mathlib.Core.Bool.{Bool, true, false, not, _&&_, and-true}
 use mathlib.Core.List.{List, [], _∷_}

@@ -1,5 +1,5 @@
 -- `trace_read::read_record` meets its contract: a walk of its code, by hand. The reader that one call makes is held in a local and
--- passed to the next; of both calls the proof knows their contracts alone. Assumes nothing.
+-- passed to the next; of both calls the proof knows their contracts alone.
 use mathlib.Core.Path.{_≡_, refl, ap, _∙_}
 use Prim.Native.Nat.{ℕ, _<_, _^_}
 use mathlib.Core.List.{List, [], _∷_}
@@ -47,13 +47,13 @@ use Rattle.trace_read.proofs.Found as F
 use Rattle.trace_read.proofs.Found.Laws as F′
 use Rattle.trace_read.proofs.Reader.new as new
 use Rattle.trace_read.proofs.Reader.new.Symbol as new-def
-use Rattle.trace_read.proofs.Reader.new.Symbol.{name as #reading·new}
+use Rattle.trace_read.proofs.Reader.new.Symbol.{name as #trace-read·new}
 use Rattle.trace_read.proofs.Reader.new.Met as new-met
 use Rattle.trace_read.proofs.Reader.next as next
 use Rattle.trace_read.proofs.Reader.next.Symbol as next-def
-use Rattle.trace_read.proofs.Reader.next.Symbol.{name as #reading·next}
+use Rattle.trace_read.proofs.Reader.next.Symbol.{name as #trace-read·next}
 use Rattle.trace_read.proofs.Reader.next.Met as next-met
-use Rattle.trace_read.proofs.read_record.Key.{name as #reading·read-record}
+use Rattle.trace_read.proofs.read_record.Key.{name as #trace-read·read-record}
 use Rattle.trace_read.proofs.read_record as read-record
 use Rattle.trace_read.proofs.read_record.Statement as stated
 use Rattle.trace_read.proofs.read_record.Code as code
@@ -125,7 +125,7 @@ module _ {M : Type 1} (𝓤 : URA M) (H : Heap 𝓤) (A : Atoms 𝓤) (W : Given
       suffices ! _ (ends-at 𝓤 H A read-record.ended stayed (read-record.clauses 𝓤 H A mem run) W (((κ, tt), (q, tt), tt, (s, (n, tt)), passed), tt) u t (tt, (tt, tt)) (tt, (tt, tt))) $ says ! e $
       move ! (1 ∷ []) $ frame ! $ nothing ! $ owned ! usize (Is usize) (uint-makes 𝓤 H A W w64) n _ (refl, fits) $ fjoin ! $ move ! (2 ∷ 0 ∷ []) $ fjoin ! $ frame ! $ done !
 
-  module _ (C : Calls 𝓤 H) (Λ : Loops 𝓤 H) (fm : FmC 𝓤 H (W .laws) C) (known-new : Triple 𝓤 (C #reading·new) (New 𝓤 H A mem run)) (known-next : Triple 𝓤 (C #reading·next) (Next 𝓤 H A mem run)) where
+  module _ (C : Calls 𝓤 H) (Λ : Loops 𝓤 H) (fm : FmC 𝓤 H (W .laws) C) (known-new : Triple 𝓤 (C #trace-read·new) (New 𝓤 H A mem run)) (known-next : Triple 𝓤 (C #trace-read·next) (Next 𝓤 H A mem run)) where
     walk : Is (slice κ) s (v ∷ []) → ent 𝓤 Before (WpFn 𝓤 H C Λ code.function (v ∷ vint w64 n ∷ []) Post)
     walk is-slice =
         qed W (raw Before ∷ []) ∵ enter ! C Λ code.function (v ∷ vint w64 n ∷ []) _ $
@@ -149,7 +149,7 @@ module _ {M : Type 1} (𝓤 : URA M) (H : Heap 𝓤) (A : Atoms 𝓤) (W : Given
         by ! (exits t u′ (e′ ∙ (ap (λ (x : RefT (List ℕ)). readAt first (now x) (r .place)) (e .0) ∙ ap (readAt first (now s)) (e .1))))))))))))))))
 
 module _ {M : Type 1} (𝓤 : URA M) (H : Heap 𝓤) (A : Atoms 𝓤) (W : Given 𝓤 H A) (mem : Memory → SProp 𝓤) (run : Routine → Fun 𝓤) where
-  read-record-walks : (C : Calls 𝓤 H) (Λ : Loops 𝓤 H) → FmC 𝓤 H (W .laws) C → Triple 𝓤 (C #reading·new) (New 𝓤 H A mem run) → Triple 𝓤 (C #reading·next) (Next 𝓤 H A mem run)
+  read-record-walks : (C : Calls 𝓤 H) (Λ : Loops 𝓤 H) → FmC 𝓤 H (W .laws) C → Triple 𝓤 (C #trace-read·new) (New 𝓤 H A mem run) → Triple 𝓤 (C #trace-read·next) (Next 𝓤 H A mem run)
       → Walks 𝓤 H A read-record.ended stayed (WpFn 𝓤 H C Λ code.function) (read-record.clauses 𝓤 H A mem run)
   read-record-walks C Λ fm known-new known-next =
       walked 𝓤 H A read-record.ended stayed (read-record.clauses 𝓤 H A mem run) (WpFn 𝓤 H C Λ code.function)
@@ -157,7 +157,7 @@ module _ {M : Type 1} (𝓤 : URA M) (H : Heap 𝓤) (A : Atoms 𝓤) (W : Given
       (λ κs qs bounds a g are. via 𝓤 _ (fst∗ 𝓤 _ (emp 𝓤)) (walk 𝓤 H A W mem run (κs .0) (qs .0) (a .0) (a .1 .0) (are .1 .0 .1) C Λ fm known-new known-next (are .0)))
 
 read-record-meets : {M : Type 1} (𝓤 : URA M) (H : Heap 𝓤) (A : Atoms 𝓤) (W : Given 𝓤 H A) (mem : Memory → SProp 𝓤) (run : Routine → Fun 𝓤) (𝓣 : Tables 𝓤 H)
-    → Triple 𝓤 (𝓣 .C #reading·new) (New 𝓤 H A mem run) → Triple 𝓤 (𝓣 .C #reading·next) (Next 𝓤 H A mem run)
+    → Triple 𝓤 (𝓣 .C #trace-read·new) (New 𝓤 H A mem run) → Triple 𝓤 (𝓣 .C #trace-read·next) (Next 𝓤 H A mem run)
     → Meets 𝓤 H A read-record.signature (WpFn 𝓤 H (𝓣 .C) (𝓣 .Λ) code.function) (read-record.spec 𝓤 H A mem run)
 read-record-meets 𝓤 H A W mem run 𝓣 known-new known-next =
     walk-meets 𝓤 H A read-record.ended stayed W
@@ -169,7 +169,7 @@ pub read-record-spec : {M : Type 1} → stated.statement M
 unfolding code.routine tablesOf
 read-record-spec 𝓤 H 𝓜 𝓖 𝓡 =
     entered 𝓤 H (tripleOf 𝓤 H (𝓖 .A) read-record.signature (read-record.spec 𝓤 H (𝓖 .A) (𝓜 .mem) (𝓡 .run)))
-    (tables 𝓤 H 𝓜 𝓡 code.env .C) (tables 𝓤 H 𝓜 𝓡 code.env .Λ) #reading·read-record code.function (code.unfolded 𝓤 H 𝓜 𝓡)
+    (tables 𝓤 H 𝓜 𝓡 code.env .C) (tables 𝓤 H 𝓜 𝓡 code.env .Λ) #trace-read·read-record code.function (code.unfolded 𝓤 H 𝓜 𝓡)
     (read-record-meets 𝓤 H (𝓖 .A) (givenOf 𝓤 H 𝓜 𝓖) (𝓜 .mem) (𝓡 .run) (tablesOf 𝓤 H 𝓜 (tables 𝓤 H 𝓜 𝓡 code.env))
-    (cited 𝓤 H (New 𝓤 H (𝓖 .A) (𝓜 .mem) (𝓡 .run)) 𝓜 𝓡 code.env #reading·new new-def.routine code.calls-reading·Reader·new (new-met.met 𝓤 H 𝓜 𝓖 𝓡))
-    (cited 𝓤 H (Next 𝓤 H (𝓖 .A) (𝓜 .mem) (𝓡 .run)) 𝓜 𝓡 code.env #reading·next next-def.routine code.calls-reading·Reader·next (next-met.met 𝓤 H 𝓜 𝓖 𝓡)))
+    (cited 𝓤 H (New 𝓤 H (𝓖 .A) (𝓜 .mem) (𝓡 .run)) 𝓜 𝓡 code.env #trace-read·new new-def.routine code.calls-trace-read·Reader·new (new-met.met 𝓤 H 𝓜 𝓖 𝓡))
+    (cited 𝓤 H (Next 𝓤 H (𝓖 .A) (𝓜 .mem) (𝓡 .run)) 𝓜 𝓡 code.env #trace-read·next next-def.routine code.calls-trace-read·Reader·next (next-met.met 𝓤 H 𝓜 𝓖 𝓡)))

@@ -1,5 +1,5 @@
 -- `trace_read::Reader::advance` meets its contract: a walk of its code, by hand. The place and the slice are taken out, one call is
--- made on each, and the struct is made anew of what they give. The struct passed is kept whole for the exit. Assumes nothing.
+-- made on each, and the struct is made anew of what they give. The struct passed is kept whole for the exit.
 use mathlib.Core.Path.{_≡_, refl, sym, ap, subst}
 use Prim.Native.Nat.{ℕ, _<_, _^_}
 use mathlib.Core.List.{List, [], _∷_}
@@ -48,13 +48,13 @@ use Rattle.trace_read.proofs.Found as F
 use Rattle.trace_read.proofs.Found.Laws as F′
 use Rattle.trace_read.proofs.place_after as place-after
 use Rattle.trace_read.proofs.place_after.Symbol as place-after-def
-use Rattle.trace_read.proofs.place_after.Symbol.{name as #reading·place-after}
+use Rattle.trace_read.proofs.place_after.Symbol.{name as #trace-read·place-after}
 use Rattle.trace_read.proofs.place_after.Met as place-after-met
 use Rattle.trace_read.proofs.unread_after as unread-after
 use Rattle.trace_read.proofs.unread_after.Symbol as unread-after-def
-use Rattle.trace_read.proofs.unread_after.Symbol.{name as #reading·unread-after}
+use Rattle.trace_read.proofs.unread_after.Symbol.{name as #trace-read·unread-after}
 use Rattle.trace_read.proofs.unread_after.Met as unread-after-met
-use Rattle.trace_read.proofs.Reader.advance.Key.{name as #reading·advance}
+use Rattle.trace_read.proofs.Reader.advance.Key.{name as #trace-read·advance}
 use Rattle.trace_read.proofs.Reader.advance as advance
 use Rattle.trace_read.proofs.Reader.advance.Statement as stated
 use Rattle.trace_read.proofs.Reader.advance.Code as code
@@ -168,7 +168,7 @@ module _ {M : Type 1} (𝓤 : URA M) (H : Heap 𝓤) (A : Atoms 𝓤) (W : Given
       subst (λ (y : Val). Holds (hasTy (T′.mir (named 0)) (made u y)) × WT (made u y)) (sym ew)
       (subst (λ (x : Val). Holds (hasTy (T′.mir (named 0)) (made x (vint w64 m))) × WT (made x (vint w64 m))) (sym eu) (tt, (t′, (record { fits = fits }, tt))))
 
-  module _ (C : Calls 𝓤 H) (Λ : Loops 𝓤 H) (fm : FmC 𝓤 H (W .laws) C) (known-place : Triple 𝓤 (C #reading·place-after) (PlaceAfter 𝓤 H A mem run)) (known-unread : Triple 𝓤 (C #reading·unread-after) (UnreadAfter 𝓤 H A mem run)) where
+  module _ (C : Calls 𝓤 H) (Λ : Loops 𝓤 H) (fm : FmC 𝓤 H (W .laws) C) (known-place : Triple 𝓤 (C #trace-read·place-after) (PlaceAfter 𝓤 H A mem run)) (known-unread : Triple 𝓤 (C #trace-read·unread-after) (UnreadAfter 𝓤 H A mem run)) where
     walk : Holds (hasTy (T′.mir (named 0)) (machine d)) × WT (machine d) → ent 𝓤 Before (WpFn 𝓤 H C Λ code.function (machine d ∷ fv ∷ []) Post)
     walk typed =
         qed W (raw Before ∷ []) ∵ enter ! C Λ code.function (machine d ∷ fv ∷ []) _ $
@@ -198,7 +198,7 @@ module _ {M : Type 1} (𝓤 : URA M) (H : Heap 𝓤) (A : Atoms 𝓤) (W : Given
         by ! (exits r m u w (slice-value r u is-r) (number-value m w is-m) (is-m .1) er em))))))))))))))))
 
 module _ {M : Type 1} (𝓤 : URA M) (H : Heap 𝓤) (A : Atoms 𝓤) (W : Given 𝓤 H A) (mem : Memory → SProp 𝓤) (run : Routine → Fun 𝓤) where
-  advance-walks : (C : Calls 𝓤 H) (Λ : Loops 𝓤 H) → FmC 𝓤 H (W .laws) C → Triple 𝓤 (C #reading·place-after) (PlaceAfter 𝓤 H A mem run) → Triple 𝓤 (C #reading·unread-after) (UnreadAfter 𝓤 H A mem run)
+  advance-walks : (C : Calls 𝓤 H) (Λ : Loops 𝓤 H) → FmC 𝓤 H (W .laws) C → Triple 𝓤 (C #trace-read·place-after) (PlaceAfter 𝓤 H A mem run) → Triple 𝓤 (C #trace-read·unread-after) (UnreadAfter 𝓤 H A mem run)
       → Walks 𝓤 H A advance.ended stayed (WpFn 𝓤 H C Λ code.function) (advance.clauses 𝓤 H A mem run)
   advance-walks C Λ fm known-place known-unread =
       walked 𝓤 H A advance.ended stayed (advance.clauses 𝓤 H A mem run) (WpFn 𝓤 H C Λ code.function)
@@ -206,7 +206,7 @@ module _ {M : Type 1} (𝓤 : URA M) (H : Heap 𝓤) (A : Atoms 𝓤) (W : Given
       (λ κs qs bounds a g are. via 𝓤 _ (fst∗ 𝓤 _ (emp 𝓤)) (walk 𝓤 H A W mem run (κs .0) (qs .0) (a .0) (a .1 .0) (are .1 .0) C Λ fm known-place known-unread (LL.lawful (declared κs) (laws κs) 𝓤 H A W .typed (a .0) _ (are .0) .0)))
 
 advance-meets : {M : Type 1} (𝓤 : URA M) (H : Heap 𝓤) (A : Atoms 𝓤) (W : Given 𝓤 H A) (mem : Memory → SProp 𝓤) (run : Routine → Fun 𝓤) (𝓣 : Tables 𝓤 H)
-    → Triple 𝓤 (𝓣 .C #reading·place-after) (PlaceAfter 𝓤 H A mem run) → Triple 𝓤 (𝓣 .C #reading·unread-after) (UnreadAfter 𝓤 H A mem run)
+    → Triple 𝓤 (𝓣 .C #trace-read·place-after) (PlaceAfter 𝓤 H A mem run) → Triple 𝓤 (𝓣 .C #trace-read·unread-after) (UnreadAfter 𝓤 H A mem run)
     → Meets 𝓤 H A advance.signature (WpFn 𝓤 H (𝓣 .C) (𝓣 .Λ) code.function) (advance.spec 𝓤 H A mem run)
 advance-meets 𝓤 H A W mem run 𝓣 known-place known-unread =
     walk-meets 𝓤 H A advance.ended stayed W
@@ -218,7 +218,7 @@ pub advance-spec : {M : Type 1} → stated.statement M
 unfolding code.routine tablesOf
 advance-spec 𝓤 H 𝓜 𝓖 𝓡 =
     entered 𝓤 H (tripleOf 𝓤 H (𝓖 .A) advance.signature (advance.spec 𝓤 H (𝓖 .A) (𝓜 .mem) (𝓡 .run)))
-    (tables 𝓤 H 𝓜 𝓡 code.env .C) (tables 𝓤 H 𝓜 𝓡 code.env .Λ) #reading·advance code.function (code.unfolded 𝓤 H 𝓜 𝓡)
+    (tables 𝓤 H 𝓜 𝓡 code.env .C) (tables 𝓤 H 𝓜 𝓡 code.env .Λ) #trace-read·advance code.function (code.unfolded 𝓤 H 𝓜 𝓡)
     (advance-meets 𝓤 H (𝓖 .A) (givenOf 𝓤 H 𝓜 𝓖) (𝓜 .mem) (𝓡 .run) (tablesOf 𝓤 H 𝓜 (tables 𝓤 H 𝓜 𝓡 code.env))
-    (cited 𝓤 H (PlaceAfter 𝓤 H (𝓖 .A) (𝓜 .mem) (𝓡 .run)) 𝓜 𝓡 code.env #reading·place-after place-after-def.routine code.calls-reading·place-after (place-after-met.met 𝓤 H 𝓜 𝓖 𝓡))
-    (cited 𝓤 H (UnreadAfter 𝓤 H (𝓖 .A) (𝓜 .mem) (𝓡 .run)) 𝓜 𝓡 code.env #reading·unread-after unread-after-def.routine code.calls-reading·unread-after (unread-after-met.met 𝓤 H 𝓜 𝓖 𝓡)))
+    (cited 𝓤 H (PlaceAfter 𝓤 H (𝓖 .A) (𝓜 .mem) (𝓡 .run)) 𝓜 𝓡 code.env #trace-read·place-after place-after-def.routine code.calls-trace-read·place-after (place-after-met.met 𝓤 H 𝓜 𝓖 𝓡))
+    (cited 𝓤 H (UnreadAfter 𝓤 H (𝓖 .A) (𝓜 .mem) (𝓡 .run)) 𝓜 𝓡 code.env #trace-read·unread-after unread-after-def.routine code.calls-trace-read·unread-after (unread-after-met.met 𝓤 H 𝓜 𝓖 𝓡)))

@@ -1,5 +1,5 @@
 -- `trace_read::Reader::left` meets its contract: a walk of its code, by hand. The slice's length is read off the struct, which is
--- kept whole. Assumes nothing.
+-- kept whole.
 use mathlib.Core.Path.{refl}
 use Prim.Native.Nat.{ℕ, _<_, _^_}
 use mathlib.Core.List.{[], _∷_}
@@ -35,7 +35,7 @@ use denote.Exit.{yes}
 use Rattle.trace_read.specs.declared.Reader.{Reader}
 use Rattle.trace_read.proofs.Held.{row, declared, laws, machine}
 use Rattle.trace_read.proofs.Reader.Laws as T′
-use Rattle.trace_read.proofs.Reader.left.Key.{name as #reading·left}
+use Rattle.trace_read.proofs.Reader.left.Key.{name as #trace-read·left}
 use Rattle.trace_read.proofs.Reader.left as left
 use Rattle.trace_read.proofs.Reader.left.Statement as stated
 use Rattle.trace_read.proofs.Reader.left.Code as code
@@ -84,5 +84,5 @@ pub left-spec : {M : Type 1} → stated.statement M
 unfolding code.routine tablesOf
 left-spec 𝓤 H 𝓜 𝓖 𝓡 =
     entered 𝓤 H (tripleOf 𝓤 H (𝓖 .A) left.signature (left.spec 𝓤 H (𝓖 .A) (𝓜 .mem) (𝓡 .run)))
-    (tables 𝓤 H 𝓜 𝓡 code.env .C) (tables 𝓤 H 𝓜 𝓡 code.env .Λ) #reading·left code.function (code.unfolded 𝓤 H 𝓜 𝓡)
+    (tables 𝓤 H 𝓜 𝓡 code.env .C) (tables 𝓤 H 𝓜 𝓡 code.env .Λ) #trace-read·left code.function (code.unfolded 𝓤 H 𝓜 𝓡)
     (left-meets 𝓤 H (𝓖 .A) (givenOf 𝓤 H 𝓜 𝓖) (𝓜 .mem) (𝓡 .run) (tablesOf 𝓤 H 𝓜 (tables 𝓤 H 𝓜 𝓡 code.env)))

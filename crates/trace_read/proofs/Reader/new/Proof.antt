@@ -1,5 +1,5 @@
 -- `trace_read::Reader::new` meets its contract: a walk of its code, by hand. What the slice owns is had twice: once for the
--- parameter at exit, and once inside the struct, beside the place. Assumes nothing.
+-- parameter at exit, and once inside the struct, beside the place.
 use mathlib.Core.Path.{refl}
 use Prim.Native.Nat.{ℕ, _<_, _^_}
 use mathlib.Core.List.{List, [], _∷_}
@@ -35,7 +35,7 @@ use denote.Triple.Walked.{says, Stays, stay-none, stay-none-slice, walkOf, goes-
 use denote.Exit.{yes}
 use Rattle.trace_read.specs.declared.Reader.{Reader}
 use Rattle.trace_read.proofs.Held.{slice, declared, laws, machine}
-use Rattle.trace_read.proofs.Reader.new.Key.{name as #reading·new}
+use Rattle.trace_read.proofs.Reader.new.Key.{name as #trace-read·new}
 use Rattle.trace_read.proofs.Reader.new as new
 use Rattle.trace_read.proofs.Reader.new.Statement as stated
 use Rattle.trace_read.proofs.Reader.new.Code as code
@@ -97,5 +97,5 @@ pub new-spec : {M : Type 1} → stated.statement M
 unfolding code.routine tablesOf
 new-spec 𝓤 H 𝓜 𝓖 𝓡 =
     entered 𝓤 H (tripleOf 𝓤 H (𝓖 .A) new.signature (new.spec 𝓤 H (𝓖 .A) (𝓜 .mem) (𝓡 .run)))
-    (tables 𝓤 H 𝓜 𝓡 code.env .C) (tables 𝓤 H 𝓜 𝓡 code.env .Λ) #reading·new code.function (code.unfolded 𝓤 H 𝓜 𝓡)
+    (tables 𝓤 H 𝓜 𝓡 code.env .C) (tables 𝓤 H 𝓜 𝓡 code.env .Λ) #trace-read·new code.function (code.unfolded 𝓤 H 𝓜 𝓡)
     (new-meets 𝓤 H (𝓖 .A) (givenOf 𝓤 H 𝓜 𝓖) (𝓜 .mem) (𝓡 .run) (tablesOf 𝓤 H 𝓜 (tables 𝓤 H 𝓜 𝓡 code.env)))
