@@ -1,8 +1,8 @@
 -- Which number the writer's checks give, by the tests that the code made; and what is known where it is 0.
-use mathlib.Core.Path.{_≡_, refl, sym, ap, subst, _∙_}
-use mathlib.Core.Bool.{Bool, true, false, not, _&&_, and-true}
+use mathlib.Core.Path.{_≡_, refl, sym, subst, _∙_}
+use mathlib.Core.Bool.{Bool, true, false, not}
 use mathlib.Core.List.{List, [], _∷_}
-use Prim.Native.Nat.{ℕ, _+_, _-_, _*_, _/_, _^_, _≤_, _<_}
+use Prim.Native.Nat.{ℕ, _+_, _-_, _/_, _^_, _≤_, _<_}
 use native.Mathlib.Nat.{div-eq-of-lt, div-lt-iff-lt-mul, one-mul, not-le-of-lt}
 use native.Mathlib.Omega.{arith}
 use lib.Dec.{T, eqb, leb, ltb, ltb→lt, leb→le, eqb→eq}
@@ -12,15 +12,14 @@ use borrow.Author.Tests.{eq-eqb, ne-eqb, lt-ltb, le-ltb, ltb-true, ltb-false, no
 use Rattle.rules.specs.Bytes.{allOf}
 use Rattle.rules.specs.Sizes.{setupInRange, supplyRight}
 use Rattle.rules.specs.Answers.{check, firstOf}
-use Rattle.rules.proofs.Facts.{each, passed}
+use Rattle.rules.proofs.Facts.{each, passed, limited}
 use Rattle.rules.specs.declared.Setup.{Setup}
 use Rattle.rules.specs.declared.Span.{Span}
-use Rattle.trace_form.specs.Bounds.{InRange}
+use Rattle.rules.specs.Asked.{Limited}
 use Rattle.trace_form.specs.Header.{headerLength, supplyLength}
 use Rattle.trace_form.specs.declared.Widths.{Widths}
 use Rattle.trace_form.specs.declared.Head.{Head}
 use Rattle.trace_form.specs.declared.Fields.{Fields}
-use Rattle.trace_form.proofs.Headers.{in-range}
 use Rattle.trace_form.proofs.Checks.{first-passed}
 use Rattle.trace_write.specs.Writing.{headerRefusal, numbersFit, spanFits, maxOff, maxLen, refusalOf}
 
@@ -37,11 +36,6 @@ fits-test v w = go (ltb v (2 ^ w)) refl
         (div-lt-iff-lt-mul {k = 2 ^ w} {x = v} {y = 1} (pow-pos w) .0 (omega (arith, e))))
         (ltb-false v (2 ^ w) t))
 
--- three tests, as the code joins them
-pub all-three : (a b c inner outer : Bool) → inner ≡ b && c → outer ≡ a && inner → outer ≡ allOf (a ∷ b ∷ c ∷ [])
-unfolding allOf
-all-three a b c inner outer p q = simp and-true (q ∙ ap (λ (x : Bool). a && x) p)
-
 -- a header; r is what the code found of the setup
 module _ (s : Setup) (supply : List ℕ) (room : ℕ) (r : Bool) (er : r ≡ setupInRange s) where
   pub header-range : not r ≡ true → 10 ≡ headerRefusal s supply room
@@ -54,8 +48,8 @@ module _ (s : Setup) (supply : List ℕ) (room : ℕ) (r : Bool) (er : r ≡ set
     within : setupInRange s ≡ true
     within = sym er ∙ not-false r t
 
-    pub header-sizes : InRange s
-    header-sizes = in-range s (passed (setupInRange s) within)
+    pub header-sizes : Limited s
+    header-sizes = limited s (passed (setupInRange s) within)
 
     pub header-supply : (length supply ≡ supplyLength s → ⊥) → 10 ≡ headerRefusal s supply room
     unfolding headerRefusal firstOf check allOf supplyRight
