@@ -1,20 +1,19 @@
 -- Records one after the other, to the end, in every right form: reading them and writing them undo each other, and reading
 -- comes to an end.
 use mathlib.Core.Path.{_≡_, refl, sym, ap, ap₂, subst, _∙_}
-use mathlib.Core.Logic.{_⊎_, inl, inr}
+use mathlib.Core.Logic.{inl, inr}
 use mathlib.Core.Bool.{Bool, true, false, cond}
 use mathlib.Core.List.{List, [], _∷_, _++_, append-assoc, append-nil}
 use Prim.Native.Nat.{ℕ, zero, suc, _+_, _-_, _^_, _≤_, _<_}
-use native.Mathlib.Nat.{le-of-suc-le-suc, not-suc-le-zero}
 use native.Mathlib.Omega.{arith}
 use lib.Dec.{eqb, leb}
-use lib.ListN.{getD, length, take, drop, take-append-drop, length-append, length-drop}
-use lib.Seq.{getD-drop, drop-drop, take-at, drop-at}
-use borrow.Author.Tests.{eq-eqb, ne-eqb, eqb-true, eqb-false}
-use Rattle.trace_bits.specs.Packing.{Bytes}
-use Rattle.rules.specs.Bytes.{overlay}
+use lib.ListN.{length, take, drop, take-append-drop, length-append, length-drop}
+use lib.Seq.{drop-drop, take-at, drop-at}
+use borrow.Author.Tests.{ne-eqb, eqb-true, eqb-false}
+use Rattle.rules.specs.Bytes.{Bytes, overlay}
 use Rattle.rules.specs.Events.{kindOf, dataLength}
 use Rattle.rules.proofs.Parts.{length-overlay}
+use Rattle.rules.proofs.BigEndian.{bytes-drop}
 use Rattle.rules.specs.declared.Event.{Event}
 use Rattle.trace_form.specs.Form.{Right, headOf}
 use Rattle.trace_form.specs.declared.Form.{Form}
@@ -27,7 +26,8 @@ use Rattle.trace_write.specs.Writing.{Written, done, written, recordBytes, reco
 use Rattle.trace_write.proofs.Outputs.{overlay-front, length-record}
 use Rattle.trace_laws.specs.Traces.{Item, item, Records, also, readOn, readRecords, Refusal, behind, writeRecords}
 use Rattle.trace_laws.specs.Traces.Records.{all, refused}
-use Rattle.trace_laws.proofs.Records.{Stands, stands, Fits, not-refused, fits-where-not-refused, read-fits, written-back, takes-a-byte, read-back, data-back, rest-back}
+use Rattle.trace_laws.proofs.Records.{stands, Fits, not-refused, fits-where-not-refused, read-fits, written-back}
+use Rattle.trace_laws.proofs.Records.{takes-a-byte, read-back, data-back, rest-back}
 
 -- the bytes of records
 unfoldable pub itemsBytes : Form → List Item → List ℕ
@@ -37,9 +37,6 @@ itemsBytes f (i ∷ is) = recordBytes f (i .event) (i .new) ++ itemsBytes f is
 pub data AllFit (f : Form) : List Item → Type 0 where
   fit-end : AllFit f []
   fit-more : {i : Item} {is : List Item} → Fits f (i .event) (i .new) → AllFit f is → AllFit f (i ∷ is)
-
-pub bytes-drop : (k : ℕ) (s : List ℕ) → Bytes s → Bytes (drop k s)
-bytes-drop k s b i = subst (λ (x : ℕ). x < 2 ^ 8) (sym (getD-drop k s i 0)) (b (k + i))
 
 -- ENDING: what a step can be refused with
 -- where bytes are left, it is no end
