@@ -1,2 +1,2 @@
--- What the contracts of moving cite beside the rules.
-pub mod Numbers
+-- What the contracts of core_seal_bytes cite beside the rules.
+pub mod Moved

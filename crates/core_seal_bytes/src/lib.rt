@@ -1,24 +1,10 @@
-// What sealing and unveiling are made of: a page's number, the number of the signature, a record's new place, and the bytes that
-// move between frames and store.
+// What sealing and unveiling are made of: the number of the signature, and the bytes that move between frames and store.
 ghost use mathlib.Core.Path.{_≡_};
 ghost use Prim.Native.Nat.{_+_, _*_, _<_, _≤_};
 ghost use lib.ListN.{length};
 ghost use Rattle.rules.specs.Sealing.{sealedWith, takes};
-ghost use Rattle.core_seal_bytes.specs.Numbers.{Limited, Numbered, SealedBytes, UnveiledBytes};
-use rules::Asid;
-use rules::Gvpn;
-use rules::PageRecord;
-use rules::Place;
-use rules::Setup;
+ghost use Rattle.core_seal_bytes.specs.Moved.{SealedBytes, UnveiledBytes};
 use rules::Wear;
-
-// A page's number among all, by which the table has its record and the store its slot.
-pub fn page_number(setup: Setup, d: Asid, v: Gvpn) -> usize
-    requires { ⌜ (Limited setup) × (d .0 < setup .domains) × (v .0 < setup .pages) ⌝ }
-    ensures { λ r. ⌜ Numbered setup d v r ⌝ }
-{
-    (d.0 as usize) * setup.pages + (v.0 as usize)
-}
 
 // The number of the signature that a page is sealed with.
 pub fn sealed_with(used: u16, wear: Wear) -> u16
@@ -39,14 +25,6 @@ pub fn used_after(used: u16, wear: Wear) -> u16
         Wear::Dirty => used + 1,
         Wear::Clean(_) => used,
     }
-}
-
-// A page's record with another place: its mapping stays.
-pub fn placed(page: PageRecord, place: Place) -> PageRecord
-    ensures { λ r. ⌜ r ≡ record { mapping = page .mapping; place = place } ⌝ }
-{
-    let mapping = page.mapping;
-    PageRecord { mapping, place }
 }
 
 // Frame f is copied to its page's slot, and filled with signature k.

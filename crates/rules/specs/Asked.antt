@@ -2,9 +2,9 @@
 -- Sizes and Sound give them (`limited` and `agreed` of proofs/Facts.antt), so that an entry point tests once for all of them.
 use mathlib.Core.Path.{_≡_}
 use mathlib.Core.Bool.{not}
-use Prim.Native.Nat.{ℕ, _%_, _≤_, _<_}
+use Prim.Native.Nat.{ℕ, _*_, _%_, _≤_, _<_}
 use lib.Dec.{T}
-use Rattle.rules.specs.Sizes.{sizeUnit, minSize, maxSize, maxDomains, maxPages, maxContexts, maxFrames, maxSignatures}
+use Rattle.rules.specs.Sizes.{sizeUnit, minSize, maxSize, maxDomains, maxPages, maxContexts, maxFrames, maxSignatures, pageNumber}
 use Rattle.rules.specs.Records.{lifeOf, activityOf, pageOf, placeOf, mappingOf, namesOf, isEmpty, isClearIn, namesNone}
 use Rattle.rules.specs.Sound.{untouched}
 use Rattle.rules.specs.declared.Setup.{Setup}
@@ -35,6 +35,12 @@ pub record Limited (s : Setup) : Type 0 where
   pub some-frames : 1 ≤ s .frames
   pub frames : s .frames ≤ maxFrames
   pub signatures : s .signatures ≤ maxSignatures
+
+-- n is the number of page v of domain d, that of a slot of the store and of a record
+pub record Numbered (s : Setup) (d : Asid) (v : Gvpn) (n : ℕ) : Type 0 where
+  pub is : n ≡ pageNumber s d v
+  pub slot : n < s .domains * s .pages
+  pub listed : n < maxDomains * maxPages
 
 -- the records agree with each other
 pub record Agreed (s : Setup) (t : Tables) : Type 0 where

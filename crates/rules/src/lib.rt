@@ -1,13 +1,14 @@
 // The types of the monitor core: setup, numbers, records, state, events and answers.
 // What they mean is in specs/, which condenses document 01's core.
 ghost use mathlib.Core.Path.{_≡_};
-ghost use Prim.Native.Nat.{_≤_};
+ghost use Prim.Native.Nat.{_<_};
 ghost use mathlib.Core.Bool.{not};
 ghost use mathlib.Core.List.{[], _∷_};
 ghost use Rattle.rules.specs.Bytes.{allOf};
-ghost use Rattle.rules.specs.Sizes.{between, setupInRange, maxPages, pageNumber};
+ghost use Rattle.rules.specs.Sizes.{between, setupInRange};
 ghost use Rattle.rules.specs.Records.{freshState, isEmpty, isStopped, isFree, isRunning, isKeptIn, domainWhere};
 ghost use Rattle.rules.specs.Records.{isUnmapped, isPublic, isClearIn, frameWhere};
+ghost use Rattle.rules.specs.Asked.{Limited, Numbered};
 ghost use Rattle.rules.specs.Sealing.{takesAt};
 ghost use Rattle.rules.specs.Events.{kindOf, dataLength};
 
@@ -69,8 +70,8 @@ impl Setup {
 
     // A page's number among all, by which the table has its record and the store its slot.
     pub fn page_number(self, d: Asid, v: Gvpn) -> usize
-        requires { ⌜ self .pages ≤ maxPages ⌝ }
-        ensures { λ r. ⌜ r ≡ pageNumber self d v ⌝ }
+        requires { ⌜ (Limited self) × (d .0 < self .domains) × (v .0 < self .pages) ⌝ }
+        ensures { λ r. ⌜ Numbered self d v r ⌝ }
     {
         (d.0 as usize) * self.pages + (v.0 as usize)
     }

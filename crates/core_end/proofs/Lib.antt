@@ -1,0 +1,5 @@
+pub mod Laws
+pub mod Zeroing
+pub mod Turns
+pub mod Naming
+pub mod Named

@@ -1,0 +1,59 @@
+-- `kernel_read` meets its contract: the frame is sealed, and what is then in it is given.
+use mathlib.Core.Path.{_∙_}
+use Rattle.core_answer.proofs.Laws.{found}
+use Rattle.core_events_kernel.proofs.Touching.{read-seals, read-fits, read-leaves}
+use borrow.Author.Needs.{needs}
+use Rattle.core_events_kernel.proofs.kernel_read.Statement.{statement}
+use Rattle.core_events_kernel.proofs.kernel_read.Tie as tie
+
+seal-requires : tie.Need-seal-requires
+seal-requires c κs =
+    let a = c .before .before .before .before .before .before .before .before .before .before in
+    read-seals _ _ _ _ _ _ _ (a .args .span) (a .args .«data» .now) (a .args .answer .now) (a .pre)
+
+cast-give-span : tie.Need-cast-give-span
+cast-give-span c = search needs
+
+give-span-requires : tie.Need-give-span-requires
+give-span-requires c κs =
+    let a = c .before .before .before .before .before .before .before .before .before .before .before .before .before .before .before .before .before .before .before .before in
+    read-fits _ _ _ _ _ _ _ _ (a .args .«data» .now) (a .args .answer .now) (a .pre) (c .before .before .before .before .before .before .frames .given)
+
+told-requires : tie.Need-told-requires
+told-requires c κs =
+    let a = c .before .before .before .before .before .before .before .before .before .before .before .before .before .before .before .before .before .before .before .before .before .before .before .before in
+    c .before .before .before .before .before .before .before .before .before .before .before .before .tables .given ∙ found _ (a .pre) .tables-long
+
+same-length : tie.Need-same-length
+same-length c = search needs
+
+same-length-2 : tie.Need-same-length-2
+same-length-2 c = search needs
+
+same-length-3 : tie.Need-same-length-3
+same-length-3 c = search needs
+
+same-length-4 : tie.Need-same-length-4
+same-length-4 c = search needs
+
+returns : tie.Need-returns
+returns c =
+    let a = c .before .before .before .before .before .before .before .before .before .before .before .before .before .before .before .before .before .before .before .before .before .before .before .before .before in
+    let was = found _ (a .pre) in
+    let sealed = c .before .before .before .before .before .before .before .before .before .before .before .before .before .before .seal .ensures _ in
+    c .told .ensures (a .args .setup) _ _ _ _ (sealed .canonical (was .canonical)) (was .saved-long)
+    ∙ read-leaves _ _ _ _ _ _ _ _ _ _ (a .pre) _ (sealed .is) (c .before .before .before .before .give-span .ensures)
+
+pub kernel-read-spec : {M : Type 1} → statement M
+kernel-read-spec =
+    tie.close
+    (tie.spec
+    seal-requires
+    cast-give-span
+    give-span-requires
+    told-requires
+    same-length
+    same-length-2
+    same-length-3
+    same-length-4
+    returns)

@@ -1,0 +1,5 @@
+-- The laws that the proofs of the functions cite.
+pub mod Orders
+pub mod Needs
+pub mod Frames
+pub mod Homes
