@@ -179,7 +179,8 @@ module _ (f : Form) (right : Right f) where
       let long = length-items i is fit in
       let some = laid f (kindOf e) right .some in
       ap (readOn (readRecords f n) s p) (read-back f right e (i .new) tail p fit near)
-      ∙ ap₂ (λ (x y : List ℕ). also (item e x) (readRecords f n y q)) (data-back f right e (i .new) tail p fit) (rest-back f right e (i .new) tail p fit)
+      ∙ ap₂ (λ (x y : List ℕ). also (item e x) (readRecords f n y q)) (data-back f right e (i .new) tail p fit)
+      (rest-back f right e (i .new) tail p fit)
       ∙ ap (also i) (all-back is n q w (omega (arith, long, some)) (omega (arith, long)))
 
 -- WRITING: each record behind the bytes that were written
@@ -195,14 +196,18 @@ front-split out bytes h =
       ap (drop (length bytes)) is ∙ drop-at bytes (drop (length bytes) out) (length bytes) refl,
     )
 
+-- the output behind the bytes that were written
+abbrev unwritten : List ℕ → List ℕ → List ℕ
+unwritten out bytes = drop (length bytes) (overlay 0 bytes out)
+
 front-more : (out bytes more : List ℕ) → length bytes + length more ≤ length out
-    → behind (front out bytes) (front (drop (length bytes) (overlay 0 bytes out)) more) ≡ front out (bytes ++ more)
+    → behind (front out bytes) (front (unwritten out bytes) more) ≡ front out (bytes ++ more)
 front-more out bytes more h =
     let parts = front-split out bytes (omega arith) in
     let rest : List ℕ = drop (length bytes) out in
     let room : length more ≤ length rest = omega (arith, length-drop (length bytes) out) in
     let len : length (bytes ++ more) ≡ length bytes + length more = length-append bytes more in
-    let same : take (length bytes) (overlay 0 bytes out) ++ overlay 0 more (drop (length bytes) (overlay 0 bytes out)) ≡ overlay 0 (bytes ++ more) out =
+    let same : take (length bytes) (overlay 0 bytes out) ++ overlay 0 more (unwritten out bytes) ≡ overlay 0 (bytes ++ more) out =
     ap₂ (λ (x y : List ℕ). x ++ overlay 0 more y) (parts .0) (parts .1)
     ∙ ap (λ (x : List ℕ). bytes ++ x) (overlay-front more rest room)
     ∙ sym (append-assoc bytes more (drop (length more) rest))
@@ -217,14 +222,14 @@ module _ (f : Form) (right : Right f) where
   record-front e new out z = rw z
 
   room-behind : (out bytes : List ℕ) → length bytes ≤ length out
-      → length (drop (length bytes) (overlay 0 bytes out)) ≡ length out - length bytes
-  room-behind out bytes h = length-drop (length bytes) (overlay 0 bytes out) ∙ ap (λ (x : ℕ). x - length bytes) (length-overlay 0 bytes out)
+      → length (unwritten out bytes) ≡ length out - length bytes
+  room-behind out bytes h = length-unwritten out bytes ∙ ap (λ (x : ℕ). x - length bytes) (length-overlay 0 bytes out)
 
-  record-more : (i : Item) (out bytes : List ℕ) → length bytes ≤ length out → let rest = drop (length bytes) (overlay 0 bytes out) in
+  record-more : (i : Item) (out bytes : List ℕ) → length bytes ≤ length out → let rest = unwritten out bytes in
       recordRefusal f (i .event) (i .new) (length rest) ≡ 0
       → behind (front out bytes) (writeRecord f (i .event) (i .new) rest) ≡ front out (bytes ++ recordBytes f (i .event) (i .new))
   record-more i out bytes h z =
-      let rest : List ℕ = drop (length bytes) (overlay 0 bytes out) in
+      let rest : List ℕ = unwritten out bytes in
       let fit = fits-where-not-refused f right (i .event) (i .new) (length rest) z in
       ap (behind (front out bytes)) (record-front (i .event) (i .new) rest z)
       ∙ front-more out bytes (recordBytes f (i .event) (i .new))
@@ -235,7 +240,7 @@ module _ (f : Form) (right : Right f) where
   unfolding itemsBytes writeRecords
   write-all [] out bytes w h = ap (front out) (sym (append-nil bytes))
   write-all (i ∷ is) out bytes (fit-more fit w) h =
-      let rest : List ℕ = drop (length bytes) (overlay 0 bytes out) in
+      let rest : List ℕ = unwritten out bytes in
       let rb : List ℕ = recordBytes f (i .event) (i .new) in
       let len : length (rb ++ itemsBytes f is) ≡ length rb + length (itemsBytes f is) = length-append rb (itemsBytes f is) in
       let within : length bytes ≤ length out = omega arith in
@@ -262,13 +267,13 @@ module _ (f : Form) (right : Right f) where
 
   one-more : (i : Item) (is : List Item) (out bytes : List ℕ) → length bytes ≤ length out
       → ((more : List ℕ) → length more ≤ length out → writeRecords f is (front out more) .number ≡ 0 → Room is out more)
-      → writeRecords f is (behind (front out bytes) (writeRecord f (i .event) (i .new) (drop (length bytes) (overlay 0 bytes out)))) .number ≡ 0
+      → writeRecords f is (behind (front out bytes) (writeRecord f (i .event) (i .new) (unwritten out bytes))) .number ≡ 0
       → Room (i ∷ is) out bytes
   unfolding itemsBytes
   one-more i is out bytes h rest-fits z = go (eqb (recordRefusal f (i .event) (i .new) (length rest)) 0) refl
     where
       rest : List ℕ
-      rest = drop (length bytes) (overlay 0 bytes out)
+      rest = unwritten out bytes
 
       rb : List ℕ
       rb = recordBytes f (i .event) (i .new)

@@ -25,7 +25,8 @@ cast-third c =
 add-t14 : tie.Need-add-t14
 add-t14 c =
     let s = c .before .before .before .before .before .before .before .before .before .before .before in
-    let b : c .field5 .result < 2 ^ 12 = mod-below (c .field5 .result) _ (s .args .self .widths .len) 12 (c .field5 .ensures) (s .pre .small .five) in
+    let b : c .field5 .result < 2 ^ 12 =
+    mod-below (c .field5 .result) _ (s .args .self .widths .len) 12 (c .field5 .ensures) (s .pre .small .five) in
     omega arith
 
 returns : tie.Need-returns
