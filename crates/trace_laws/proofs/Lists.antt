@@ -223,7 +223,7 @@ module _ (f : Form) (right : Right f) where
 
   room-behind : (out bytes : List ℕ) → length bytes ≤ length out
       → length (unwritten out bytes) ≡ length out - length bytes
-  room-behind out bytes h = length-unwritten out bytes ∙ ap (λ (x : ℕ). x - length bytes) (length-overlay 0 bytes out)
+  room-behind out bytes h = length-drop (length bytes) (overlay 0 bytes out) ∙ ap (λ (x : ℕ). x - length bytes) (length-overlay 0 bytes out)
 
   record-more : (i : Item) (out bytes : List ℕ) → length bytes ≤ length out → let rest = unwritten out bytes in
       recordRefusal f (i .event) (i .new) (length rest) ≡ 0
