@@ -34,24 +34,21 @@ load-front s k h long b =
     ap₂ (λ (x y : ℕ). number (take x s) / 2 ^ y) both bits
     ∙ rw (take-add k j s, number-append, size, bits-of-bytes j) (digits-div (number (take k s)) below)
 
--- storing: the bytes from i on are written, and rest is n without them
-module _ (k n i : ℕ) (some : 0 < i) (inside : i ≤ k) where
-  one-more : k - (i - 1) ≡ suc (k - i)
-  one-more = omega arith
+-- storing: the last i of the k bytes are written, and rest is n without them
+pub rest-turn : (n i rest : ℕ) → rest ≡ n / 256 ^ i → rest / 256 ≡ n / 256 ^ (i + 1)
+rest-turn n i rest e = rw (add-one i, e) (quotient-more n i)
 
-  pub rest-turn : (rest : ℕ) → rest ≡ n / 256 ^ (k - i) → rest / 256 ≡ n / 256 ^ (k - (i - 1))
-  rest-turn rest e = rw (one-more, e) (quotient-more n (k - i))
+written : (l : List ℕ) (j v : ℕ) → j < length l → drop j (set l j v) ≡ v ∷ drop (suc j) l
+written l j v h =
+    let fits : j < length (set l j v) = rw length-set h in
+    rw (drop-cons (set l j v) j 0 fits, getD-set-same l j v 0 h)
+    (ap (λ (t : List ℕ). v ∷ t) (drop-set-lt (suc j) l j v (omega arith)))
 
-  written : (l : List ℕ) (j v : ℕ) → j < length l → drop j (set l j v) ≡ v ∷ drop (suc j) l
-  written l j v h =
-      let fits : j < length (set l j v) = rw length-set h in
-      rw (drop-cons (set l j v) j 0 fits, getD-set-same l j v 0 h)
-      (ap (λ (t : List ℕ). v ∷ t) (drop-set-lt (suc j) l j v (omega arith)))
-
-  pub store-turn : (out old : List ℕ) (rest : ℕ) → i ≤ length out → rest ≡ n / 256 ^ (k - i)
-      → drop i out ≡ bigEndian (k - i) n ++ old
-      → drop (i - 1) (set out (i - 1) (rest % 256)) ≡ bigEndian (k - (i - 1)) n ++ old
-  unfolding bigEndian
-  store-turn out old rest fits er eo =
-      let at : suc (i - 1) ≡ i = omega arith in
-      rw (one-more, written out (i - 1) (rest % 256) (omega arith), at, eo, er)
+pub store-turn : (k n i rest : ℕ) (out old : List ℕ) → i < k → k ≤ length out → rest ≡ n / 256 ^ i
+    → drop (k - i) out ≡ bigEndian i n ++ old
+    → drop (k - (i + 1)) (set out (k - 1 - i) (rest % 256)) ≡ bigEndian (i + 1) n ++ old
+unfolding bigEndian
+store-turn k n i rest out old more fits er eo =
+    let next : k - (i + 1) ≡ k - 1 - i = omega arith in
+    let last : suc (k - 1 - i) ≡ k - i = omega arith in
+    rw (next, add-one i, written out (k - 1 - i) (rest % 256) (omega arith), last, eo, er)

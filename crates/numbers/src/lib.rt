@@ -38,10 +38,11 @@ pub fn store(out: &mut [u8], k: usize, n: u64)
     ensures { λ _. ⌜ now (out .exit) ≡ bigEndian k n ++ drop k (now (out .entry)) ⌝ }
 {
     let mut rest = n;
-    let mut i = k;
-    while 0 < i {
-        i -= 1;
-        out[i] = (rest % 256) as u8;
+    let mut i = 0;
+    while i < k {
+        let at = k - 1 - i;
+        out[at] = (rest % 256) as u8;
         rest = rest / 256;
+        i += 1;
     }
 }

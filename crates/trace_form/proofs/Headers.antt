@@ -19,6 +19,7 @@ use Rattle.rules.proofs.Facts.{all, passed}
 use Rattle.rules.specs.declared.Setup.{Setup}
 use Rattle.rules.specs.Asked.{Limited}
 use Rattle.trace_form.specs.Form.{domainBits, pageBits, contextBits, frameBits}
+use Rattle.trace_form.proofs.Table.{_▹_}
 use Rattle.trace_form.specs.Header.{sizeBits, signatureBits, headerWidths, headerLength, setupValues, setupIn, spareIn}
 use Rattle.trace_form.specs.Header.{supplyLength, headerBytes, headerValues}
 
@@ -72,25 +73,15 @@ module _ (n : ℕ) where
   pub read-in-range : T (setupInRange read)
   unfolding setupInRange
   read-in-range =
-      all _ (
-        between-in minSize maxSize (read .size) (omega arith) (omega arith),
-        (
-          passed _ (eq-eqb (read .size % sizeUnit) 0 (omega arith)),
-          (
-            between-in 1 maxDomains (read .domains) (omega arith) (omega arith),
-            (
-              between-in 1 maxPages (read .pages) (omega arith) (omega arith),
-              (
-                between-in 1 maxContexts (read .contexts) (omega arith) (omega arith),
-                (
-                  between-in 1 maxFrames (read .frames) (omega arith) (omega arith),
-                  (passed _ (le-leb (read .signatures) maxSignatures (omega arith)), tt),
-                ),
-              ),
-            ),
-          ),
-        ),
-      )
+      all _
+      (between-in minSize maxSize (read .size) (omega arith) (omega arith)
+      ▹ passed _ (eq-eqb (read .size % sizeUnit) 0 (omega arith))
+      ▹ between-in 1 maxDomains (read .domains) (omega arith) (omega arith)
+      ▹ between-in 1 maxPages (read .pages) (omega arith) (omega arith)
+      ▹ between-in 1 maxContexts (read .contexts) (omega arith) (omega arith)
+      ▹ between-in 1 maxFrames (read .frames) (omega arith) (omega arith)
+      ▹ passed _ (le-leb (read .signatures) maxSignatures (omega arith))
+      ▹ tt)
 
 -- packing what was read, where its spare bits are zero, gives the bytes
 values-back : (a b c d e f : ℕ)

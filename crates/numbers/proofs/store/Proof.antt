@@ -1,9 +1,9 @@
--- `numbers::store` meets its contract. The loop's invariant: the bytes from i to k are those of n, the others as they were,
--- and the rest is n without them.
+-- `numbers::store` meets its contract. The loop's invariant: the last i of the k bytes are written, those behind the k as they
+-- were, and the rest is n without the bytes written.
 use mathlib.Core.Path.{_≡_, refl, sym, _∙_}
 use mathlib.Core.List.{_++_}
 use Prim.Native.Nat.{_-_, _/_, _^_, _≤_}
-use native.Mathlib.Nat.{sub-zero, div-one}
+use native.Mathlib.Nat.{sub-zero, sub-self, div-one}
 use native.Mathlib.Omega.{arith}
 use borrow.Author.Needs.{needs}
 use lib.ListN.{length, drop, length-set}
@@ -16,27 +16,30 @@ abbrev Inv-loop : tie.InvT-loop
 Inv-loop out₀ k n rest₀ i₀ out rest i =
     (i ≤ k)
     × (length out ≡ length out₀)
-    × (rest ≡ n / 256 ^ (k - i))
-    × (drop i out ≡ bigEndian (k - i) n ++ drop k out₀)
+    × (rest ≡ n / 256 ^ i)
+    × (drop (k - i) out ≡ bigEndian i n ++ drop k out₀)
 
 abbrev μ-loop : tie.MeasureT-loop
-μ-loop out₀ k n rest₀ i₀ out rest i = i
+μ-loop out₀ k n rest₀ i₀ out rest i = k - i
 
 loop-holds : tie.Need-loop-holds Inv-loop μ-loop
 unfolding bigEndian
-loop-holds c =
-    let a = c .args in
-    let none : a .k - a .k ≡ 0 = omega arith in
-    (omega arith, refl, rw none (sym (div-one (a .n))), rw none)
+loop-holds c = (omega arith, refl, sym (div-one (c .args .n)), rw sub-zero)
 
-sub-i : tie.Need-sub-i Inv-loop μ-loop
-sub-i c = omega arith
+sub-at : tie.Need-sub-at Inv-loop μ-loop
+sub-at c = omega arith
+
+sub-at-2 : tie.Need-sub-at-2 Inv-loop μ-loop
+sub-at-2 c = omega arith
 
 cast-out : tie.Need-cast-out Inv-loop μ-loop
 cast-out c = omega arith
 
 slice-write-out : tie.Need-slice-write-out Inv-loop μ-loop
 slice-write-out c = omega arith
+
+add-i : tie.Need-add-i Inv-loop μ-loop
+add-i c = omega arith
 
 loop-less : tie.Need-loop-less Inv-loop μ-loop
 loop-less c = omega arith
@@ -47,9 +50,9 @@ loop-again c =
     let l = c .before .loop in
     let inv = l .inv in (
       omega arith,
-      length-set (l .out) (l .i - 1) _ ∙ inv .1,
-      rest-turn (a .k) (a .n) (l .i) (c .loop-test .taken) (inv .0) (l .rest) (inv .2),
-      store-turn (a .k) (a .n) (l .i) (c .loop-test .taken) (inv .0) (l .out) _ (l .rest) (omega arith) (inv .2) (inv .3),
+      length-set (l .out) (a .k - 1 - l .i) _ ∙ inv .1,
+      rest-turn (a .n) (l .i) (l .rest) (inv .2),
+      store-turn (a .k) (a .n) (l .i) (l .rest) (l .out) _ (c .loop-test .taken) (omega arith) (inv .2) (inv .3),
     )
 
 same-length : tie.Need-same-length Inv-loop μ-loop
@@ -58,8 +61,8 @@ same-length c = search needs
 returns : tie.Need-returns Inv-loop μ-loop
 returns c =
     let l = c .before .loop in
-    let none : l .i ≡ 0 = omega arith in
-    rw (none, sub-zero) at (l .inv .3)
+    let all : l .i ≡ c .before .before .args .k = omega arith in
+    rw (all, sub-self) at (l .inv .3)
 
 pub store-spec : {M : Type 1} → statement M
 store-spec =
@@ -68,9 +71,11 @@ store-spec =
     Inv-loop
     μ-loop
     loop-holds
-    sub-i
+    sub-at
+    sub-at-2
     cast-out
     slice-write-out
+    add-i
     loop-less
     loop-again
     same-length
