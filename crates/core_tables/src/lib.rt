@@ -5,7 +5,7 @@ ghost use Prim.Native.Nat.{ℕ, _<_, _≤_};
 ghost use lib.ListN.{length, getD};
 ghost use Rattle.rules.specs.Bytes.{zeros};
 ghost use Rattle.rules.specs.Sizes.{maxDomains, maxPages, maxContexts, maxFrames};
-ghost use Rattle.rules.specs.Records.{publicPage, openFrame, emptyDomain, freeContext, freshTables};
+ghost use Rattle.rules.specs.Records.{publicPage, openFrame, emptyDomain, freeContext};
 ghost use Rattle.core_tables.specs.Words.{namesWord, PlaceFits, NamesFit};
 ghost use Rattle.core_tables.specs.Image.{imageWords, maxEntries, tablesIn, Canonical};
 ghost use Rattle.core_tables.specs.Put.{Put, setPage, setNames, setLife, setActivity, setUsed};
@@ -41,20 +41,12 @@ pub const USED_AT: usize = SIGN_AT + ENTRIES;
 // How many words the image of tables has.
 pub const WORDS: usize = USED_AT + 1;
 
-// As freshly started: every word 0.
-pub fn fresh(tables: &mut [u16])
-    requires { ⌜ length (now tables) ≡ imageWords ⌝ }
-    ensures { λ _. ⌜ ((v : ℕ) → (tablesIn v (now (tables .exit)) ≡ freshTables) × (Canonical v (now (tables .exit)))) ⌝ }
+// Every word 0: as freshly started, where there are as many words as an image has.
+pub fn zero(tables: &mut [u16])
+    ensures { λ _. ⌜ now (tables .exit) ≡ zeros (length (now (tables .entry))) ⌝ }
 {
-    zero(tables);
-}
-
-// Every word of dst 0.
-fn zero(dst: &mut [u16])
-    ensures { λ _. ⌜ now (dst .exit) ≡ zeros (length (now (dst .entry))) ⌝ }
-{
-    for i in 0..dst.len() {
-        dst[i] = 0;
+    for i in 0..tables.len() {
+        tables[i] = 0;
     }
 }
 

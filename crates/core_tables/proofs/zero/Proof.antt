@@ -1,4 +1,4 @@
--- The loop's invariant: the first i bytes of dst are 0, and the others as they were.
+-- The loop's invariant: the first i words are 0, and the others as they were.
 use mathlib.Core.Path.{_≡_, refl, ap, _∙_}
 use mathlib.Core.List.{_++_, append-nil}
 use Prim.Native.Nat.{_≤_, _-_}
@@ -11,19 +11,19 @@ use Rattle.core_tables.proofs.zero.Statement.{statement}
 use Rattle.core_tables.proofs.zero.Tie as tie
 
 abbrev Inv-loop : tie.InvT-loop
-Inv-loop dst₀ i₀ i-end dst i = (i ≤ length dst₀) × (length dst ≡ length dst₀) × (dst ≡ replicate i 0 ++ drop i dst₀)
+Inv-loop tables₀ i₀ i-end tables i = (i ≤ length tables₀) × (length tables ≡ length tables₀) × (tables ≡ replicate i 0 ++ drop i tables₀)
 
 abbrev μ-loop : tie.MeasureT-loop
-μ-loop dst₀ i₀ i-end dst i = length dst₀ - i
+μ-loop tables₀ i₀ i-end tables i = length tables₀ - i
 
 loop-holds : tie.Need-loop-holds Inv-loop μ-loop
 loop-holds c = (omega arith, refl, fill-none _ 0)
 
-mul-dst : tie.Need-mul-dst Inv-loop μ-loop
-mul-dst c = omega arith
+mul-tables : tie.Need-mul-tables Inv-loop μ-loop
+mul-tables c = omega arith
 
-slice-write-dst : tie.Need-slice-write-dst Inv-loop μ-loop
-slice-write-dst c = omega arith
+slice-write-tables : tie.Need-slice-write-tables Inv-loop μ-loop
+slice-write-tables c = omega arith
 
 add-i : tie.Need-add-i Inv-loop μ-loop
 add-i c = omega arith
@@ -42,7 +42,7 @@ same-length c = c .before .loop .inv .1
 returns : tie.Need-returns Inv-loop μ-loop
 unfolding zeros
 returns c =
-    let d = c .before .before .args .dst .now in
+    let d = c .before .before .args .tables .now in
     let l = c .before .loop in
     let e : l .i ≡ length d = omega arith in
     l .inv .2 ∙ ap (λ n. replicate n 0 ++ drop n d) e ∙ simp (drop-length, append-nil)
@@ -54,8 +54,8 @@ zero-spec =
     Inv-loop
     μ-loop
     loop-holds
-    mul-dst
-    slice-write-dst
+    mul-tables
+    slice-write-tables
     add-i
     loop-less
     loop-again

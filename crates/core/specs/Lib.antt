@@ -1,0 +1,2 @@
+-- What a start leaves.
+pub mod Started

@@ -1,0 +1,2 @@
+-- When what is handed in is acceptable.
+pub mod Acceptable

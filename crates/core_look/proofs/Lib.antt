@@ -1,0 +1,2 @@
+-- What a granted look stands on.
+pub mod Within
