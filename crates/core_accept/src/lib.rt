@@ -2,7 +2,7 @@
 // anything, so nothing is asked: the result is the rules' for every setup and all that is lent.
 ghost use mathlib.Core.Path.{_≡_};
 ghost use Rattle.core_accept.specs.Acceptable.{lentRight, startableIn, lookableIn, acceptableIn};
-use core_refuse_event::both;
+use rules::both;
 use rules::Setup;
 
 // Whether the setup is in range, and as many words and bytes are lent as it asks.
