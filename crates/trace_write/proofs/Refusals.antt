@@ -19,7 +19,7 @@ use Rattle.trace_form.specs.Header.{headerLength, supplyLength}
 use Rattle.trace_form.specs.declared.Widths.{Widths}
 use Rattle.trace_form.specs.declared.Head.{Head}
 use Rattle.trace_form.specs.declared.Fields.{Fields}
-use Rattle.rules.proofs.Granting.{first-not}
+use Rattle.rules.proofs.Checks.{first-passed}
 use Rattle.trace_write.specs.Writing.{headerRefusal, numbersFit, spanFits, maxOff, maxLen, refusalOf}
 
 -- a number fits w bits exactly if nothing is left when they are shifted out
@@ -68,8 +68,8 @@ unfolding headerRefusal supplyRight
 header-ready s supply room e =
     let tests : List Bool = setupInRange s ∷ supplyRight s supply ∷ [] in
     let short : Bool = ltb room (headerLength + length supply) in
-    let a = first-not 10 (not (allOf tests)) (check 11 short ∷ []) (λ z. omega (arith, z)) e in
-    let b = first-not 11 short [] (λ z. omega (arith, z)) (a .1) in
+    let a = first-passed 10 (not (allOf tests)) (check 11 short ∷ []) e (λ z. omega (arith, z)) in
+    let b = first-passed 11 short [] (a .1) (λ z. omega (arith, z)) in
     let p = each tests (passed (allOf tests) (not-false (allOf tests) (a .0))) in
     record {
       sizes = p .0;
@@ -122,9 +122,9 @@ record-ready h v want n room e =
     let spans : List Bool = ltb 0 (x .len) ∷ leb (x .len) maxLen ∷ leb (x .off) maxOff ∷ [] in
     let lens : List Bool = spanFits x ∷ eqb n want ∷ [] in
     let short : Bool = ltb room (h .bytes + n) in
-    let a = first-not 2 (not (numbersFit w v)) (check 3 (not (allOf lens)) ∷ check 11 short ∷ []) (λ z. omega (arith, z)) e in
-    let b = first-not 3 (not (allOf lens)) (check 11 short ∷ []) (λ z. omega (arith, z)) (a .1) in
-    let c = first-not 11 short [] (λ z. omega (arith, z)) (b .1) in
+    let a = first-passed 2 (not (numbersFit w v)) (check 3 (not (allOf lens)) ∷ check 11 short ∷ []) e (λ z. omega (arith, z)) in
+    let b = first-passed 3 (not (allOf lens)) (check 11 short ∷ []) (a .1) (λ z. omega (arith, z)) in
+    let c = first-passed 11 short [] (b .1) (λ z. omega (arith, z)) in
     let p = each nums (passed (allOf nums) (not-false (allOf nums) (a .0))) in
     let q = each lens (passed (allOf lens) (not-false (allOf lens) (b .0))) in
     let y = each spans (q .0) in
