@@ -1,7 +1,7 @@
--- Laws of a list of checks: where the answer is 0, none of them applies. Assumes nothing.
+-- Laws of a list of checks: where the answer is 0, none of them applies.
 use mathlib.Core.Path.{_≡_, refl}
 use mathlib.Core.Bool.{Bool, true, false}
-use mathlib.Core.List.{List, [], _∷_}
+use mathlib.Core.List.{List, _∷_}
 use Prim.Native.Nat.{ℕ}
 use Rattle.rules.specs.Answers.{Check, check, firstOf}
 
