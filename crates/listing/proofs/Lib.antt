@@ -1,4 +1,5 @@
 pub mod Computing
+pub mod Example
 pub mod Steps
 pub mod Showing
 pub mod Openings
