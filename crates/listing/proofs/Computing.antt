@@ -13,11 +13,15 @@ use Rattle.listing.specs.Listing.{isShown, shownLength, eventLine, event
 use Rattle.listing.specs.Listing.{textOf, linesFrom, startPoint, listingOf, listing}
 
 unfoldable records : Unit {0}
-unfolding lifeIn lifeWord activityAs activityIn activityWord namesIn namesWord mappingIn mappingWord wearIn hiddenIn placeIn homeWord signWord
+unfolding lifeIn lifeWord activityAs activityIn activityWord namesIn namesWord mappingIn mappingWord
 records = tt
 
+unfoldable places : Unit {0}
+unfolding wearIn hiddenIn placeIn homeWord signWord
+places = tt
+
 unfoldable words : Unit {0}
-unfolding records table tablesIn registersIn savedIn imageOf savedWords canonical readable refuses stepped lentRight started
+unfolding records places table tablesIn registersIn savedIn imageOf savedWords canonical readable refuses stepped lentRight started
 words = tt
 
 unfoldable lines : Unit {0}

@@ -117,6 +117,12 @@ module _ (trace : List ℕ) (s : Setup) (at : ℕ) (e : openingAt trace ≡ Size
   unfolding headerValues
   taken-in-range = limited s (rw is-read (read-in-range _))
 
+  pub taken-saved : savedLength s ≤ 8 * maxContexts
+  taken-saved = saved-counted s taken-in-range
+
+  pub taken-pages : s .domains * s .pages ≤ maxDomains * maxPages
+  taken-pages = pages-counted s taken-in-range
+
   pub taken-frames : framesLength s ≤ limit
   unfolding productsFit
   taken-frames = leb→le (framesLength s) limit (each _ fitting .0)

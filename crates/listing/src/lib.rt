@@ -213,7 +213,18 @@ fn turn(
         } => {
             let new = trace_read::data_of(unread, found);
             event_turn(
-                run, next, event, new, trace, tables, saved, frames, store, answer, out, at,
+                run,
+                next,
+                event,
+                new,
+                trace,
+                tables,
+                saved,
+                frames,
+                store,
+                answer,
+                out,
+                at,
             )
         }
         Found::Refused(number) => {
@@ -259,7 +270,15 @@ pub fn fill(
     }
     while goes_on(after.place, trace.len(), out.len() - count, answer.len()) {
         let next = turn(
-            after, trace, tables, saved, frames, store, answer, out, count,
+            after,
+            trace,
+            tables,
+            saved,
+            frames,
+            store,
+            answer,
+            out,
+            count,
         );
         after = next.run;
         count = next.count;

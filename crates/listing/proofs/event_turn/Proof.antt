@@ -89,7 +89,7 @@ returns d =
     let put = d .before .before .before .event-line .ensures in
     let x = shown c in (
       event-turns (stands s) (s .args .event) (s .args .next) (s .args .«data» .now) _ ((signed k) .supply .ensures) (k .step .ensures)
-      (c .shown-length .ensures) (d .before .before .before .before .before .kind .ensures) (put .0),
+          (c .shown-length .ensures) (d .before .before .before .before .before .kind .ensures) (put .0),
       omega (arith, put .1, x .within, x .exact, x .long),
     )
 

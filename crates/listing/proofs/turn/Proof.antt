@@ -85,8 +85,8 @@ returns c =
     let read = found .before .before in
     let s = begun read in (
       turned .event-turn .ensures .0
-      ∙ record-turns (stands s) (read .record-at .ensures) (found .found .given .1) (s .args .at) (s .args .out .now)
-      (brought .data-of .ensures),
+          ∙ record-turns (stands s) (read .record-at .ensures) (found .found .given .1) (s .args .at) (s .args .out .now)
+          (brought .data-of .ensures),
       turned .event-turn .ensures .1,
     )
 
@@ -104,7 +104,7 @@ returns-2 c =
     let read = found .before .before in
     let s = begun read in (
       refused-turns (stands s) (read .record-at .ensures) (s .args .at) (s .args .out .now) (c .ended .ensures)
-      (found .found2 .given .1) (told .used .ensures) (line .refused-line .ensures .0),
+          (found .found2 .given .1) (told .used .ensures) (line .refused-line .ensures .0),
       omega (arith, line .refused-line .ensures .1, ap (λ (f : Filled). f .count) (c .ended .ensures)),
     )
 
@@ -113,7 +113,7 @@ returns-3 c =
     let read = c .before .before .before in
     let s = begun read in (
       end-turns (stands s) (read .record-at .ensures) (s .args .at) (s .args .out .now) (c .ended2 .ensures) refl
-      (c .before .enum-told .given .1),
+          (c .before .enum-told .given .1),
       omega (arith, ap (λ (f : Filled). f .count) (c .ended2 .ensures)),
     )
 
