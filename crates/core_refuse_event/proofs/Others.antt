@@ -1,5 +1,4 @@
 -- A `match` on an event that names some kinds leaves the rest to one arm, which is told that the kind is one of those.
---
 use mathlib.Core.Path.{_≡_, refl}
 use mathlib.Core.List.{List, [], _∷_}
 use mathlib.Core.Bool.{true}

@@ -1,4 +1,4 @@
--- Laws of the rules' big-endian numbers, each over the width: a byte, a word or a register more.
+-- Laws of the rules' words in bytes, registers shown and registers given, each for one register more.
 use mathlib.Core.Path.{_≡_, refl, sym, ap, ap₂, _∙_}
 use mathlib.Core.List.{List, [], _∷_, _++_, append-assoc, append-nil}
 use Prim.Native.Nat.{ℕ, zero, suc, _+_, _-_, _*_, _≤_, _<_}

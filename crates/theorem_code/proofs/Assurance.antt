@@ -27,14 +27,14 @@ use Rattle.rules.specs.declared.Event.the-variants.{Resume, Read, Write}
 use Rattle.stepping.specs.Left.{Left, leaves}
 use Rattle.monitor.specs.Started.{started}
 use Rattle.theorem_reached.specs.States.{reached, answered, CleanAgree}
-use Rattle.theorem_reached.proofs.Reached as rule
+use Rattle.theorem_reached.proofs.Main as rule
 use Rattle.theorem_secrecy.specs.Secrets as rule-secrets
 use Rattle.theorem_secrecy.specs.TwoServices.{one, other}
-use Rattle.theorem_secrecy.proofs.Secrecy as rule-secrecy
+use Rattle.theorem_secrecy.proofs.Main as rule-secrecy
 use Rattle.theorem_secrecy.proofs.Example.{differ-in-secrets}
 use Rattle.theorem_freshness.specs.Past.{Past, past, contextBy, pageBy, resumedWith}
 use Rattle.theorem_freshness.specs.Stale.{Touch, touch, touched, Stops, Distinct, bears}
-use Rattle.theorem_freshness.proofs.Freshness as rule-freshness
+use Rattle.theorem_freshness.proofs.Main as rule-freshness
 use Rattle.theorem_code.specs.Calls.{MayStep, MaySteps, CodeRun, lastOf, point, held}
 use Rattle.theorem_code.specs.Told.{answerBytes, DifferOnlyInSecrets, SameRuns, pastOf, Stopping}
 use Rattle.theorem_code.proofs.Calls.{start-left, start-held, held-left, step-left, last-held, all-left, runs-on}

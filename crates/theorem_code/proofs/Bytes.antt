@@ -29,12 +29,13 @@ use Rattle.rules.proofs.Facts.{each}
 use Rattle.rules.proofs.Parts.{overlay-none, overlay-same}
 use Rattle.core_registers.proofs.Laws.{length-bytesOf}
 use Rattle.stepping.specs.Left.{leaves}
-use Rattle.theorem_reached.proofs.Lists.{length-mapFrom}
-use Rattle.theorem_reached.proofs.Moves.{frame-whole}
-use Rattle.theorem_reached.proofs.Passing.{Passed}
-use Rattle.theorem_reached.proofs.Acting.{frame-below, read-own}
-use Rattle.theorem_reached.proofs.Events.{performs}
-use Rattle.theorem_reached.proofs.Steps.{step-either}
+use Rattle.rules.proofs.Lists.{length-mapFrom}
+use Rattle.theorem_reached.proofs.FramesAndSlots.{frame-whole}
+use Rattle.rules.proofs.Granting.{Unrefused}
+use Rattle.rules.proofs.Tests.{frame-below}
+use Rattle.theorem_reached.proofs.OwnPages.{read-own}
+use Rattle.theorem_reached.proofs.EventsPerformed.{performs}
+use Rattle.theorem_reached.proofs.DoneOrRefused.{step-either}
 use Rattle.theorem_secrecy.specs.Secrets.{forApplication}
 use Rattle.theorem_code.specs.Told.{answerBytes}
 
@@ -111,23 +112,23 @@ then-span g e f hf x fits long brought silent = go (eqb (brought .number) 0) ref
     go false q whole = record { as-many = λ z. absurd (eqb-false (brought .number) 0 q z); none = λ _. silent }
 
 module _ (g : Given) (m : Machine) (new : List ℕ) (space : ℕ) where
-  kernel-read : (f : Gppn) (x : Span) → Passed g m (KernelRead f x) (length new) space → Fills (KernelRead f x) (perform g (KernelRead f x) new m)
+  kernel-read : (f : Gppn) (x : Span) → Unrefused g m (KernelRead f x) (length new) space → Fills (KernelRead f x) (perform g (KernelRead f x) new m)
   unfolding perform does done numbersIn row onFrame spanFits
   kernel-read f x p =
-      let good = (performs g m new space (KernelRead f x) p) .good in
+      let good = (performs g m new space (KernelRead f x) p) .accepted in
       fills g (KernelRead f x) _ _
-      (span-long g _ (good .frames) f (frame-below (g .setup) f (p .numbers)) x (leb→le _ _ ((each _ (p .span)) .1 .0)))
+      (span-long g _ (good .looks .frames) f (frame-below (g .setup) f (p .granted .numbers)) x (leb→le _ _ ((each _ (p .granted .span)) .1 .0)))
 
-  read : (c : Ctc) (v : Gvpn) (x : Span) → Passed g m (Read c v x) (length new) space → Fills (Read c v x) (perform g (Read c v x) new m)
+  read : (c : Ctc) (v : Gvpn) (x : Span) → Unrefused g m (Read c v x) (length new) space → Fills (Read c v x) (perform g (Read c v x) new m)
   unfolding perform does row touching onPage spanFits
   read c v x p =
       let own = read-own g m c v (length new) space x p in
-      let good = (performs g m new space (Read c v x) p) .good in
-      then-span g (Read c v x) (ownFrame (g .setup) (m .tables) c v) (own .frame (p .mapped)) x (leb→le _ _ ((each _ (p .span)) .1 .0)) refl _
-      (bring-none g (ownFrame (g .setup) (m .tables) c v) (domainOf (m .tables) c) v _) (good .frames)
+      let good = (performs g m new space (Read c v x) p) .accepted in
+      then-span g (Read c v x) (ownFrame (g .setup) (m .tables) c v) (own .frame (p .granted .mapped)) x (leb→le _ _ ((each _ (p .granted .span)) .1 .0)) refl _
+      (bring-none g (ownFrame (g .setup) (m .tables) c v) (domainOf (m .tables) c) v _) (good .looks .frames)
 
   -- every event but a resume
-  event-fills : (e : Event) → forApplication (g .setup) (m .tables) e ≡ false → Passed g m e (length new) space → Fills e (perform g e new m)
+  event-fills : (e : Event) → forApplication (g .setup) (m .tables) e ≡ false → Unrefused g m e (length new) space → Fills e (perform g e new m)
   unfolding perform does
   event-fills (Begin d c) seen p = fills g _ _ [] refl
   event-fills (End d) seen p = fills g _ _ [] refl
@@ -165,7 +166,7 @@ module _ (g : Given) (e : Event) (new buffer : List ℕ) (m : Machine) where
   unfolding performed refused outset
   answer-bytes seen =
       step-either g e new buffer m (λ o. answerBytes e (leaves o) ≡ o .bytes)
-      (λ p. answer-at e (perform g e new (outset m)) buffer (event-fills g (outset m) new (length buffer) e seen p) (p .room))
+      (λ p. answer-at e (perform g e new (outset m)) buffer (event-fills g (outset m) new (length buffer) e seen p) (p .granted .gives))
       (λ n _ ne. rw (ne-eqb n 0 ne))
 
   -- the whole buffer: the answer's bytes laid over its front, none where it is refused
@@ -176,7 +177,7 @@ module _ (g : Given) (e : Event) (new buffer : List ℕ) (m : Machine) where
 
   pub room : (step g e new buffer m) .number ≡ 0 → answerLength e ≤ length buffer
   unfolding performed refused
-  room = step-either g e new buffer m (λ o. o .number ≡ 0 → answerLength e ≤ length buffer) (λ p _. p .room) (λ n _ ne q. absurd (ne q))
+  room = step-either g e new buffer m (λ o. o .number ≡ 0 → answerLength e ≤ length buffer) (λ p _. p .granted .gives) (λ n _ ne q. absurd (ne q))
 
   -- of an event that is done, where the answer is known to be so long
   pub answer-long : (step g e new buffer m) .number ≡ 0 → length ((step g e new buffer m) .bytes) ≡ answerLength e

@@ -1,5 +1,4 @@
 -- Which case of `sizesAt` and `headerAt` holds, by the tests that the code made; and what is known of a header that was read.
---
 use mathlib.Core.Path.{_≡_, refl, sym, ap, subst, _∙_}
 use mathlib.Core.Bool.{Bool, true, false, cond}
 use mathlib.Core.List.{List, [], _∷_}

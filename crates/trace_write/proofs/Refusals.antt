@@ -19,7 +19,7 @@ use Rattle.trace_form.specs.Header.{headerLength, supplyLength}
 use Rattle.trace_form.specs.declared.Widths.{Widths}
 use Rattle.trace_form.specs.declared.Head.{Head}
 use Rattle.trace_form.specs.declared.Fields.{Fields}
-use Rattle.trace_form.proofs.Checks.{first-passed}
+use Rattle.rules.proofs.Checks.{first-passed}
 use Rattle.trace_write.specs.Writing.{headerRefusal, numbersFit, spanFits, maxOff, maxLen, refusalOf}
 
 -- a number fits w bits exactly if nothing is left when they are shifted out
