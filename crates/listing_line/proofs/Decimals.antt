@@ -2,7 +2,8 @@
 use mathlib.Core.Path.{_≡_, refl, ap, _∙_}
 use mathlib.Core.List.{List, [], _∷_, _++_}
 use Prim.Native.Nat.{ℕ, zero, suc, _+_, _-_, _*_, _/_, _%_, _^_, _≤_, _<_}
-use native.Mathlib.Nat.{not-suc-le-zero, mod-eq-of-lt, pow-suc, div-lt-iff-lt-mul, le-div-iff-mul-le, div-lt-self, one-le-pow, pow-le-pow-right}
+use native.Mathlib.Nat.{not-suc-le-zero, mod-eq-of-lt, pow-suc, div-lt-iff-lt-mul, le-div-iff-mul-le, div-lt-self, one-le-pow}
+use native.Mathlib.Nat.{pow-le-pow-right}
 use native.Mathlib.Decide.{decLe}
 use native.Mathlib.Omega.{arith}
 use lib.Dec.{lit<}

@@ -5,7 +5,8 @@ ghost use Prim.Native.Nat.{_+_, _*_, _≤_, _<_};
 ghost use mathlib.Core.List.{[], _∷_, _++_};
 ghost use lib.ListN.{length};
 ghost use Rattle.io.specs.Digits.{glyph};
-ghost use Rattle.listing_line.specs.Lines.{newline, dash, decimal, hex as hexOf, lastField, fieldThen, countsThen, line, refusedLine, Put};
+ghost use Rattle.listing_line.specs.Lines.{newline, dash, decimal, hex as hexOf, lastField, fieldThen, countsThen, line};
+ghost use Rattle.listing_line.specs.Lines.{refusedLine, Put};
 use rules::Answer;
 
 const SPACE: u8 = 32;

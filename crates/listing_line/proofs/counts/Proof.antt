@@ -36,9 +36,20 @@ same-length c = search needs
 returns : tie.Need-returns
 unfolding countsThen
 returns c =
-    let a = c .before .before .before .before .before .before .before .before .before .before .before .before .before .before .before .before .before .before .before .before .before .args .answer in (
-      field-then (decimal (a .number)) (c .before .before .before .before .before .before .before .before .before .before .before .before .before .before .before .before .before .number .ensures .0) (field-then (decimal (a .seals)) (c .before .before .before .before .before .before .before .before .before .before .before .before .number2 .ensures .0) (field-then (decimal (a .unveils)) (c .before .before .before .before .before .before .before .number3 .ensures .0) (c .before .before .number4 .ensures .0))),
-      omega (arith, c .before .before .before .before .before .before .before .before .before .before .before .before .before .before .before .before .before .number .ensures .1, c .before .before .before .before .before .before .before .before .before .before .before .before .number2 .ensures .1, c .before .before .before .before .before .before .before .number3 .ensures .1, c .before .before .number4 .ensures .1),
+    let back8 = c .before .before .before .before .before .before .before .before in
+    let back16 = back8 .before .before .before .before .before .before .before .before in
+    let a = back16 .before .before .before .before .before .args .answer in (
+      field-then (decimal (a .number)) (back16 .before .number .ensures .0)
+          (field-then (decimal (a .seals)) (back8 .before .before .before .before .number2 .ensures .0)
+          (field-then (decimal (a .unveils)) (c .before .before .before .before .before .before .before .number3 .ensures .0)
+          (c .before .before .number4 .ensures .0))),
+      omega (
+        arith,
+        back16 .before .number .ensures .1,
+        back8 .before .before .before .before .number2 .ensures .1,
+        c .before .before .before .before .before .before .before .number3 .ensures .1,
+        c .before .before .number4 .ensures .1,
+      ),
     )
 
 pub counts-spec : {M : Type 1} → statement M

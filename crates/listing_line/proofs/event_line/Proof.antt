@@ -24,8 +24,21 @@ same-length c = search needs
 returns : tie.Need-returns
 unfolding line
 returns c =
-    let a = c .before .before .before .before .before .before .before .before .before .before .before .before .before .before .before .before .before .before .args in
-    (field-then (decimal (a .index)) (c .before .before .before .before .before .before .before .before .before .before .before .before .before .before .number .ensures .0) (field-then (decimal (a .kind)) (c .before .before .before .before .before .before .before .before .before .before .number2 .ensures .0) (counts-then (a .answer) (c .before .before .before .before .before .before .counts .ensures .0) (c .before .before .last .ensures .0))), omega (arith, c .before .before .before .before .before .before .before .before .before .before .before .before .before .before .number .ensures .1, c .before .before .before .before .before .before .before .before .before .before .number2 .ensures .1, c .before .before .before .before .before .before .counts .ensures .1, c .before .before .last .ensures .1))
+    let back8 = c .before .before .before .before .before .before .before .before in
+    let back16 = back8 .before .before .before .before .before .before .before .before in
+    let a = back16 .before .before .args in (
+      field-then (decimal (a .index)) (back8 .before .before .before .before .before .before .number .ensures .0)
+          (field-then (decimal (a .kind)) (back8 .before .before .number2 .ensures .0)
+          (counts-then (a .answer) (c .before .before .before .before .before .before .counts .ensures .0)
+          (c .before .before .last .ensures .0))),
+      omega (
+        arith,
+        back8 .before .before .before .before .before .before .number .ensures .1,
+        back8 .before .before .number2 .ensures .1,
+        c .before .before .before .before .before .before .counts .ensures .1,
+        c .before .before .last .ensures .1,
+      ),
+    )
 
 pub event-line-spec : {M : Type 1} → statement M
 event-line-spec =

@@ -64,7 +64,8 @@ loop-again c =
       omega arith,
       refl,
       simp length-set (l .inv .2),
-      hex-turn (a .bytes .now) (a .out .now) (l .out) (a .at) (l .i) (omega arith) (l .inv .3) (c .before .digit .ensures) (c .digit2 .ensures),
+      hex-turn (a .bytes .now) (a .out .now) (l .out) (a .at) (l .i) (omega arith) (l .inv .3) (c .before .digit .ensures)
+          (c .digit2 .ensures),
     )
 
 mul-result : tie.Need-mul-result Inv-loop μ-loop

@@ -20,8 +20,11 @@ same-length c = search needs
 
 returns : tie.Need-returns
 returns c =
-    let a = c .before .before .before .before .before .before .args in
-    (small-put (a .at) (a .n) (c .before .before .before .before .if1 .taken) (c .before .before .pair .ensures), omega (arith, c .before .before .pair .ensures .ends))
+    let a = c .before .before .before .before .before .before .args in (
+      small-put (a .at) (a .n) (c .before .before .before .before .if1 .taken) (c .before .before .pair .ensures),
+      omega
+          (arith, c .before .before .pair .ensures .ends),
+    )
 
 decimal-requires : tie.Need-decimal-requires
 decimal-requires c κs = search needs
@@ -35,31 +38,42 @@ slice-aggregate-put c = search needs
 put-requires : tie.Need-put-requires
 put-requires c κs =
     let a = c .before .before .before .before .before .before .args in
-    omega (arith, few _ (a .n) (c .before .before .before .before .before .before .fits .n .fits) (c .before .before .decimal .ensures .1 .0))
+    omega (
+      arith,
+      few _ (a .n) (c .before .before .before .before .before .before .fits .n .fits)
+          (c .before .before .decimal .ensures .1 .0),
+    )
 
 add-end : tie.Need-add-end
 add-end c =
-    let a = c .before .before .before .before .before .before .before .before .before .args in
-    omega (arith, few _ (a .n) (c .before .before .before .before .before .before .before .before .before .fits .n .fits) (c .before .before .before .before .before .decimal .ensures .1 .0))
+    let back8 = c .before .before .before .before .before .before .before .before in
+    let a = back8 .before .args in
+    omega (arith, few _ (a .n) (back8 .before .fits .n .fits) (c .before .before .before .before .before .decimal .ensures .1 .0))
 
 slice-write-out : tie.Need-slice-write-out
 slice-write-out c =
-    let a = c .before .before .before .before .before .before .before .before .before .args in
-    omega (arith, few _ (a .n) (c .before .before .before .before .before .before .before .before .before .fits .n .fits) (c .before .before .before .before .before .decimal .ensures .1 .0))
+    let back8 = c .before .before .before .before .before .before .before .before in
+    let a = back8 .before .args in
+    omega (arith, few _ (a .n) (back8 .before .fits .n .fits) (c .before .before .before .before .before .decimal .ensures .1 .0))
 
 add-result : tie.Need-add-result
 add-result c =
-    let a = c .before .before .before .before .before .before .before .before .before .args in
-    omega (arith, few _ (a .n) (c .before .before .before .before .before .before .before .before .before .fits .n .fits) (c .before .before .before .before .before .decimal .ensures .1 .0))
+    let back8 = c .before .before .before .before .before .before .before .before in
+    let a = back8 .before .args in
+    omega (arith, few _ (a .n) (back8 .before .fits .n .fits) (c .before .before .before .before .before .decimal .ensures .1 .0))
 
 same-length-2 : tie.Need-same-length-2
 same-length-2 c = search needs
 
 returns-2 : tie.Need-returns-2
 returns-2 c =
-    let a = c .before .before .before .before .before .before .before .before .before .args in (
-      number-put (a .at) (a .n) _ _ (a .out .now) (c .before .before .put .last .0) (c .before .before .before .before .before .decimal .ensures .1 .0) (c .before .before .before .before .before .decimal .ensures .1 .1) (c .before .before .before .before .before .decimal .ensures .0 .1) (c .before .before .put .ensures),
-      omega (arith, few _ (a .n) (c .before .before .before .before .before .before .before .before .before .fits .n .fits) (c .before .before .before .before .before .decimal .ensures .1 .0)),
+    let back8 = c .before .before .before .before .before .before .before .before in
+    let a = back8 .before .args in (
+      number-put (a .at) (a .n) _ _ (a .out .now) (c .before .before .put .last .0)
+          (c .before .before .before .before .before .decimal .ensures .1 .0)
+          (c .before .before .before .before .before .decimal .ensures .1 .1)
+          (c .before .before .before .before .before .decimal .ensures .0 .1) (c .before .before .put .ensures),
+      omega (arith, few _ (a .n) (back8 .before .fits .n .fits) (c .before .before .before .before .before .decimal .ensures .1 .0)),
     )
 
 pub number-spec : {M : Type 1} → statement M

@@ -24,8 +24,20 @@ same-length c = search needs
 returns : tie.Need-returns
 unfolding refusedLine line
 returns c =
-    let a = c .before .before .before .before .before .before .before .before .before .before .before .before .before .before .before .before .before .args in
-    (field-then (decimal (a .index)) (c .before .before .before .before .before .before .before .before .before .before .before .before .before .before .number .ensures .0) (field-then dash (c .before .before .before .before .before .before .before .before .before .before .pair .ensures) (counts-then _ (c .before .before .before .before .before .before .counts .ensures .0) (c .before .before .pair2 .ensures))), omega (arith, c .before .before .before .before .before .before .before .before .before .before .before .before .before .before .number .ensures .1, c .before .before .before .before .before .before .before .before .before .before .pair .ensures .ends, c .before .before .before .before .before .before .counts .ensures .1, c .before .before .pair2 .ensures .ends))
+    let back8 = c .before .before .before .before .before .before .before .before in
+    let back16 = back8 .before .before .before .before .before .before .before .before in
+    let a = back16 .before .args in (
+      field-then (decimal (a .index)) (back8 .before .before .before .before .before .before .number .ensures .0)
+          (field-then dash (back8 .before .before .pair .ensures)
+          (counts-then _ (c .before .before .before .before .before .before .counts .ensures .0) (c .before .before .pair2 .ensures))),
+      omega (
+        arith,
+        back8 .before .before .before .before .before .before .number .ensures .1,
+        back8 .before .before .pair .ensures .ends,
+        c .before .before .before .before .before .before .counts .ensures .1,
+        c .before .before .pair2 .ensures .ends,
+      ),
+    )
 
 pub refused-line-spec : {M : Type 1} → statement M
 refused-line-spec =
