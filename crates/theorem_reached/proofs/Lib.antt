@@ -22,3 +22,4 @@ pub mod Numbers
 pub mod Starts
 pub mod Runs
 pub mod Reached
+pub mod Eights
