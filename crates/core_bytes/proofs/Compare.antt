@@ -1,14 +1,14 @@
--- Laws of `sameBytes` for a loop that gathers differences: bytes are the same where no bit of any differs.
--- Assumes nothing.
+-- Laws of `sameBytes` for loops that gather differences: bytes are the same where no bit of any differs, and where each
+-- block of them is.
 use mathlib.Core.Path.{_≡_, refl, sym, ap, _∙_}
 use mathlib.Core.Bool.{Bool, true, false, _&&_, and-true, and-false, and-assoc}
 use mathlib.Core.List.{List, [], _∷_}
-use Prim.Native.Nat.{ℕ, zero, suc, _+_, _≤_, _<_}
+use Prim.Native.Nat.{ℕ, zero, suc, _+_, _-_, _≤_, _<_}
 use native.Mathlib.Nat.{not-suc-le-zero, le-of-suc-le-suc}
 use native.Mathlib.Numerals.{add-one}
 use native.Mathlib.Omega.{arith}
 use lib.ListN.{length, take, drop, getD, length-drop}
-use lib.Seq.{take-all, take-nil, drop-nil, getD-drop}
+use lib.Seq.{take-all, take-nil, drop-nil, drop-drop}
 use lib.Dec.{eqb}
 use lib.Bits.{bitOr, bitXor, xor-self, or-add-and, xor-add-and, and-le-l, and-le-r}
 use borrow.Author.Tests.{eq-eqb, ne-eqb, eqb-true, eqb-false}
@@ -53,57 +53,45 @@ same-suc (x ∷ xs) (y ∷ ys) (suc i) h k =
     ap (λ (b : Bool). eqb x y && b) (same-suc xs ys i (le-of-suc-le-suc h) (le-of-suc-le-suc k))
     ∙ sym (and-assoc (eqb x y) (sameBytes (take i xs) (take i ys)) (eqb (getD xs i 0) (getD ys i 0)))
 
--- of the first h bytes and of those from m on
-again : (e t s : Bool) → s ≡ t && s → e && s ≡ (e && t) && (e && s)
-again true t s p = p
-again false t s p = refl
-
-same-halves : (a b : List ℕ) (m h : ℕ) → length a ≡ length b → m ≤ h
-    → sameBytes (take h a) (take h b) && sameBytes (drop m a) (drop m b) ≡ sameBytes a b
+-- of the bytes to n and of those from n on
+same-split : (a b : List ℕ) (n : ℕ) → length a ≡ length b
+    → sameBytes a b ≡ sameBytes (take n a) (take n b) && sameBytes (drop n a) (drop n b)
 unfolding sameBytes
-same-halves [] [] m h e l = rw (take-nil h, drop-nil m)
-same-halves [] (y ∷ ys) m h e l = let never : ⊥ = omega arith in absurd never
-same-halves (x ∷ xs) [] m h e l = let never : ⊥ = omega arith in absurd never
-same-halves (x ∷ xs) (y ∷ ys) zero zero e l = refl
-same-halves (x ∷ xs) (y ∷ ys) (suc m) zero e l = absurd (not-suc-le-zero l)
-same-halves (x ∷ xs) (y ∷ ys) zero (suc h) e l =
-    sym (again (eqb x y) _ _ (sym (same-halves xs ys zero h (omega arith) (omega arith))))
-same-halves (x ∷ xs) (y ∷ ys) (suc m) (suc h) e l =
-    and-assoc (eqb x y) _ _
-    ∙ ap (λ (b : Bool). eqb x y && b) (same-halves xs ys m h (omega arith) (le-of-suc-le-suc l))
+same-split [] [] n e = rw (take-nil n, drop-nil n)
+same-split [] (y ∷ ys) n e = let never : ⊥ = omega arith in absurd never
+same-split (x ∷ xs) [] n e = let never : ⊥ = omega arith in absurd never
+same-split (x ∷ xs) (y ∷ ys) zero e = refl
+same-split (x ∷ xs) (y ∷ ys) (suc n) e =
+    ap (λ (b : Bool). eqb x y && b) (same-split xs ys n (omega arith)) ∙ sym (and-assoc (eqb x y) _ _)
 
--- a turn of the loop: d has gathered the differences of the first i bytes, and of those from m on
-joined : (a b x y : Bool) → (a && x) && (b && y) ≡ ((a && b) && x) && y
-joined true b true y = ap (λ (c : Bool). c && y) (sym (and-true b))
-joined true true false y = refl
-joined true false false y = refl
-joined false b x y = refl
+-- a turn of the loop over bytes: d has gathered the differences of the first i
+pub same-more : (a b : List ℕ) (i d : ℕ) → i < length a → length a ≡ length b
+    → eqb d 0 ≡ sameBytes (take i a) (take i b)
+    → eqb (bitOr d (bitXor (getD a i 0) (getD b i 0))) 0 ≡ sameBytes (take (i + 1) a) (take (i + 1) b)
+same-more a b i d h e p = rw (add-one, same-suc a b i h (omega arith), or-none, xor-none, p)
 
-pub same-more : (a b : List ℕ) (m i d : ℕ) → m + i < length a → length a ≡ length b
-    → sameBytes (take i a) (take i b) && sameBytes (take i (drop m a)) (take i (drop m b)) ≡ eqb d 0
-    → sameBytes (take (i + 1) a) (take (i + 1) b) && sameBytes (take (i + 1) (drop m a)) (take (i + 1) (drop m b))
-    ≡ eqb (bitOr (bitOr d (bitXor (getD a i 0) (getD b i 0))) (bitXor (getD a (m + i) 0) (getD b (m + i) 0))) 0
-same-more a b m i d h e p =
-    rw (
-      add-one,
-      same-suc a b i (omega arith) (omega arith),
-      same-suc (drop m a) (drop m b) i (rw length-drop (omega arith)) (rw length-drop (omega arith)),
-      getD-drop m a i 0,
-      getD-drop m b i 0,
-      or-none,
-      or-none,
-      xor-none (getD a i 0),
-      xor-none,
-      ← p,
-    )
-    (joined (sameBytes (take i a) (take i b)) (sameBytes (take i (drop m a)) (take i (drop m b)))
-    (eqb (getD a i 0) (getD b i 0)) (eqb (getD a (m + i) 0) (getD b (m + i) 0)))
+-- a turn of the loop over blocks: what is before at is the same, and d tells of the bytes from at to end
+module _ (a b : List ℕ) (at end d : ℕ) (long : length a ≡ length b) (up : at ≤ end)
+    (before : sameBytes (drop at a) (drop at b) ≡ sameBytes a b)
+    (block : eqb d 0 ≡ sameBytes (take (end - at) (drop at a)) (take (end - at) (drop at b))) where
+  split : sameBytes a b ≡ eqb d 0 && sameBytes (drop end a) (drop end b)
+  split =
+      let e : at + (end - at) ≡ end = omega arith in
+      sym before
+      ∙ same-split (drop at a) (drop at b) (end - at) (simp (length-drop, long))
+      ∙ rw (← block, drop-drop (end - at) at a, drop-drop (end - at) at b, e)
 
-pub same-all : (a b : List ℕ) (m i : ℕ) → length a ≡ length b → m ≤ i → length a ≤ m + i
-    → sameBytes (take i a) (take i b) && sameBytes (take i (drop m a)) (take i (drop m b)) ≡ sameBytes a b
-same-all a b m i e l h =
-    rw (
-      take-all i (drop m a) (rw length-drop (omega arith)),
-      take-all i (drop m b) (rw length-drop (omega arith)),
-    )
-    (same-halves a b m i e l)
+  pub block-same : d ≡ 0 → sameBytes (drop end a) (drop end b) ≡ sameBytes a b
+  block-same z = sym (split ∙ ap (λ (t : Bool). t && sameBytes (drop end a) (drop end b)) (eq-eqb d 0 z))
+
+  pub block-differs : (d ≡ 0 → ⊥) → false ≡ sameBytes a b
+  block-differs n = sym (split ∙ ap (λ (t : Bool). t && sameBytes (drop end a) (drop end b)) (ne-eqb d 0 n))
+
+  pub block-last : end ≡ length a → eqb d 0 ≡ sameBytes a b
+  block-last z =
+      block
+      ∙ rw (
+        take-all (end - at) (drop at a) (rw length-drop (omega arith)),
+        take-all (end - at) (drop at b) (rw length-drop (omega arith)),
+      )
+      before

@@ -1,14 +1,21 @@
 -- A part that was lent, and what comes back of it, in the words of the rules: `part`, `overlay` and `withPart`.
--- Assumes nothing.
 use mathlib.Core.Path.{_≡_, ap}
 use mathlib.Core.List.{List, _++_, append-assoc}
 use Prim.Native.Nat.{ℕ, _+_, _-_, _*_, _≤_}
 use native.Mathlib.Nat.{add-sub-cancel-left}
 use native.Mathlib.Omega.{arith}
-use lib.ListN.{length, take}
+use lib.ListN.{length, take, length-take, length-drop}
 use borrow.Rule.Slice.PartMut.{putMid, midOf, post-is}
 use Rattle.rules.specs.Bytes.{part, overlay, withPart}
 use Rattle.rules.proofs.Parts.{overlay-is}
+
+-- the bytes from at to end: how many there are at most, and that two of one length have as many there
+pub length-mid : (at end most : ℕ) (bytes : List ℕ) → end ≤ at + most → length (midOf at (end - at) bytes) ≤ most
+length-mid at end most bytes h = rw length-take (omega arith)
+
+pub length-mids : (at end : ℕ) (a b : List ℕ) → length a ≡ length b
+    → length (midOf at (end - at) a) ≡ length (midOf at (end - at) b)
+length-mids at end a b e = simp (length-take, length-drop, e)
 
 -- the bytes from at to end, replaced
 pub put-overlay : (at end : ℕ) (new bytes : List ℕ) {left : List ℕ} → left ≡ new → end ≡ at + length new

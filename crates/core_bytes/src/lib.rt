@@ -1,12 +1,49 @@
 // Bytes: copied, made zero and compared, whole or on one page of a buffer; and a span of bytes within a page.
 // The inner layer under sealing and events: each function asks that what it is handed fits, and its callers show it.
 ghost use mathlib.Core.Path.{_≡_};
-ghost use Prim.Native.Nat.{_+_, _*_, _≤_};
+ghost use Prim.Native.Nat.{_+_, _*_, _≤_, _<_};
 ghost use lib.ListN.{length, take, drop};
+ghost use lib.Dec.{eqb};
 ghost use Rattle.rules.specs.Bytes.{part, withPart, overlay, zeros, sameBytes};
+ghost use Rattle.rules.specs.Sizes.{maxSize};
+use rules::Setup;
 
-// Every byte of dst from src, which is as long.
+// The lengths of the blocks in which bytes are compared.
+const SMALL: usize = 16;
+
+const MIDDLE: usize = 64;
+
+const LARGE: usize = 256;
+
+// Every byte of dst from src, which is as long: in pieces of the largest page's length, so that a page is one piece.
 pub fn copy(dst: &mut [u8], src: &[u8])
+    requires { ⌜ length (now src) ≡ length (now dst) ⌝ }
+    ensures { λ _. ⌜ now (dst .exit) ≡ now (src .entry) ⌝ }
+{
+    let count = src.len();
+    let mut at = 0;
+    while Setup::MAX_SIZE < count - at {
+        let end = at + Setup::MAX_SIZE;
+        copy_piece(&mut dst[at..end], &src[at..end]);
+        at = end;
+    }
+    copy_piece(&mut dst[at..count], &src[at..count]);
+}
+
+// The same of one piece. The bytes go through an array: the compiler sees that it overlaps neither slice, and makes one
+// call of memmove of the two loops. It does not see that of dst and src, and would move 16 bytes at a time.
+fn copy_piece(dst: &mut [u8], src: &[u8])
+    requires { ⌜ (length (now src) ≡ length (now dst)) × (length (now src) ≤ maxSize) ⌝ }
+    ensures { λ _. ⌜ now (dst .exit) ≡ now (src .entry) ⌝ }
+{
+    let mut held = [0u8; Setup::MAX_SIZE];
+    let count = src.len();
+    copy_each(&mut held[0..count], src);
+    copy_each(dst, &held[0..count]);
+}
+
+// The same, byte by byte.
+fn copy_each(dst: &mut [u8], src: &[u8])
     requires { ⌜ length (now src) ≡ length (now dst) ⌝ }
     ensures { λ _. ⌜ now (dst .exit) ≡ now (src .entry) ⌝ }
 {
@@ -24,24 +61,52 @@ pub fn zero(dst: &mut [u8])
     }
 }
 
-// Whether a and b hold the same bytes. Differences are gathered to the end, from both halves at once and with no way out
-// at the first: a loop that tests each byte is not vectorised. The place of a difference is looked for once one is known.
+// Whether a and b hold the same bytes. Few bytes are compared in small blocks, so that none are left over: a page's length
+// is a multiple of 16.
 pub fn same(a: &[u8], b: &[u8]) -> bool
     ensures { λ r. ⌜ r ≡ sameBytes (now (a .entry)) (now (b .entry)) ⌝ }
 {
-    if a.len() != b.len() {
+    let count = a.len();
+    if count != b.len() {
         return false;
     }
-    // of an odd count the byte in the middle is in both halves
-    let middle = a.len() / 2;
-    let half = a.len() - middle;
-    let mut differing: u8 = 0;
-    for i in 0..half {
-        let first = a[i] ^ b[i];
-        let second = a[middle + i] ^ b[middle + i];
-        differing = differing | first | second;
+    if count < MIDDLE {
+        return same_blocks(a, b, SMALL);
     }
-    differing == 0
+    if count < LARGE {
+        return same_blocks(a, b, MIDDLE);
+    }
+    same_blocks(a, b, LARGE)
+}
+
+// The same of a and b of one length: block by block, up to the first that differs, and then what is left over.
+fn same_blocks(a: &[u8], b: &[u8], block: usize) -> bool
+    requires { ⌜ (length (now a) ≡ length (now b)) × (0 < block) ⌝ }
+    ensures { λ r. ⌜ r ≡ sameBytes (now (a .entry)) (now (b .entry)) ⌝ }
+{
+    let count = a.len();
+    let mut at = 0;
+    while block <= count - at {
+        let end = at + block;
+        if differing(&a[at..end], &b[at..end]) != 0 {
+            return false;
+        }
+        at = end;
+    }
+    differing(&a[at..count], &b[at..count]) == 0
+}
+
+// The bits in which a byte of a differs from that of b, of all bytes in one. It goes to the end whatever it meets, since
+// the compiler vectorises no loop that tests each byte.
+fn differing(a: &[u8], b: &[u8]) -> u8
+    requires { ⌜ length (now a) ≡ length (now b) ⌝ }
+    ensures { λ r. ⌜ eqb r 0 ≡ sameBytes (now (a .entry)) (now (b .entry)) ⌝ }
+{
+    let mut bits: u8 = 0;
+    for i in 0..a.len() {
+        bits = bits | (a[i] ^ b[i]);
+    }
+    bits
 }
 
 // The bytes of dst from at on become src.
@@ -94,7 +159,8 @@ pub fn same_page(bytes: &[u8], size: usize, k: usize, with: &[u8]) -> bool
 // The bytes of page k from off on become new.
 pub fn put_span(bytes: &mut [u8], size: usize, k: usize, off: usize, new: &[u8])
     requires { ⌜ (off + length (now new) ≤ size) × (k * size + size ≤ length (now bytes)) ⌝ }
-    ensures { λ _. ⌜ now (bytes .exit) ≡ withPart size k (overlay off (now (new .entry)) (part size k (now (bytes .entry)))) (now (bytes .entry)) ⌝ }
+    ensures { λ _. ⌜ now (bytes .exit)
+        ≡ withPart size k (overlay off (now (new .entry)) (part size k (now (bytes .entry)))) (now (bytes .entry)) ⌝ }
 {
     let start = k * size;
     let end = start + size;

@@ -2,4 +2,3 @@
 pub mod Orders
 pub mod Needs
 pub mod Frames
-pub mod Homes

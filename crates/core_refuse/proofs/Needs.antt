@@ -1,23 +1,21 @@
 -- Laws of what an event needs of the records: numbers that are within the tables, and the signatures that its seals take.
 use mathlib.Core.Path.{_≡_, refl}
 use mathlib.Core.List.{[], _∷_}
-use mathlib.Core.Bool.{Bool, true, false, not, cond}
+use mathlib.Core.Bool.{Bool, true, false, cond}
 use Prim.Native.Nat.{ℕ, _+_, _<_}
 use native.Mathlib.Omega.{arith}
 use lib.Dec.{eqb}
-use Rattle.rules.specs.Records.{domainOf, placeOf, mappingOf, namesOf, frameWhere, isUnmapped, isClearIn}
+use Rattle.rules.specs.Records.{domainOf, placeOf, namesOf, isClearIn}
 use Rattle.rules.specs.Sealing.{sealedFirst, takesAt, takesNamed, needed}
-use Rattle.rules.specs.Events.{ownPlace, ownFrame, ownMapped}
+use Rattle.rules.specs.Events.{ownPlace, ownFrame}
 use Rattle.rules.specs.Asked.{Limited, Agreed}
-use Rattle.core_refuse.proofs.Homes.{home}
+use Rattle.core_tables.proofs.Homes.{home}
 use Rattle.rules.specs.declared.Setup.{Setup}
 use Rattle.rules.specs.declared.Tables.{Tables}
 use Rattle.rules.specs.declared.Asid.{Asid}
 use Rattle.rules.specs.declared.Gvpn.{Gvpn}
 use Rattle.rules.specs.declared.Gppn.{Gppn}
 use Rattle.rules.specs.declared.Ctc.{Ctc}
-use Rattle.rules.specs.declared.Mapping.{Mapping}
-use Rattle.rules.specs.declared.Mapping.the-variants.{Unmapped, Mapped}
 use Rattle.rules.specs.declared.Wear.{Wear}
 use Rattle.rules.specs.declared.Place.{Place}
 use Rattle.rules.specs.declared.Place.the-variants.{Public, Clear, Sealed}
@@ -43,17 +41,6 @@ needed-first s t f d v (Clear h w) e named = at (eqb (h .0) (f .0))
 
 module _ (s : Setup) (t : Tables) (size : Limited s) (agrees : Agreed s t) (c : Ctc) (v : Gvpn) (known : c .0 < s .contexts)
     (below : v .0 < s .pages) where
-  -- the frame of a context's own page is within the setup
-  pub own-frame : ownMapped s t c v ≡ true → (ownFrame s t c v) .0 < s .frames
-  unfolding ownMapped ownFrame
-  own-frame is =
-      at (mappingOf s t (domainOf t c) v) (λ f e. agrees .mapped (domainOf t c) v f (home s t size agrees c known) below e) is
-    where
-      at : (m : Mapping) → ((f : Gppn) → m ≡ Mapped f → f .0 < s .frames) → not (isUnmapped m) ≡ true
-          → (frameWhere m) .0 < s .frames
-      at Unmapped h e = absurd (let z : _≡_ {A = ℕ} 0 1 = cc in omega arith)
-      at (Mapped f) h e = h f refl
-
   pub own-needed : needed s t (sealedFirst (ownFrame s t c v) (ownPlace s t c v))
       ≡ cond (isClearIn (ownFrame s t c v) (ownPlace s t c v)) 0
       (takesAt (ownPlace s t c v) + takesNamed s t (namesOf t (ownFrame s t c v)))

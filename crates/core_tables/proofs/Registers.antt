@@ -5,8 +5,8 @@ use mathlib.Core.List.{List, [], _∷_, _++_}
 use Prim.Native.Nat.{ℕ, zero, suc, _+_, _-_, _*_, _≤_, _<_}
 use native.Mathlib.Nat.{zero-add, suc-add, add-comm}
 use native.Mathlib.Omega.{arith}
-use lib.ListN.{length, getD, set, take, drop, replicate, length-append, length-replicate, getD-replicate, List·getD-append, drop-of-length-le, take-append-drop}
-use lib.Seq.{take-nil, set-append-left, getD-append-add, drop-drop}
+use lib.ListN.{length, getD, set, take, drop, replicate, length-append, length-replicate, getD-replicate, List·getD-append, drop-of-length-le, length-drop, take-append-drop}
+use lib.Seq.{take-nil, length-take-le, set-append-left, getD-append-add, drop-drop}
 use Rattle.rules.specs.Bytes.{overlay}
 use Rattle.rules.specs.Sizes.{maxContexts}
 use Rattle.rules.specs.Records.{zeroRegisters}
@@ -42,6 +42,12 @@ saved-there n i y h =
     (List·getD-append (registersIn 0 n y) (replicate (maxContexts - n) zeroRegisters) zeroRegisters i (rw (length-registers 0 n y) h))
     ∙ getD-registers 0 n i y zeroRegisters h
     ∙ rw zero-add
+
+-- eight words each
+pub saved-eight : (n i : ℕ) (y : List ℕ) → length y ≡ 8 * n → i < n → length ((getD (savedIn n y) i zeroRegisters) .words) ≡ 8
+saved-eight n i y l h =
+    let left : length (drop (8 * i) y) ≡ length y - 8 * i = length-drop (8 * i) y in
+    ap length (saved-there n i y h) ∙ length-take-le 8 (drop (8 * i) y) (omega arith)
 
 -- a part that ends before what is laid over
 take-drop : (p n : ℕ) (l : List ℕ) → take p (drop n l) ≡ drop n (take (n + p) l)

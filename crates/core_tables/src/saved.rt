@@ -6,6 +6,7 @@ ghost use Rattle.rules.specs.Bytes.{zeros};
 ghost use Rattle.rules.specs.Sizes.{maxContexts};
 ghost use Rattle.rules.specs.Records.{zeroRegisters};
 ghost use Rattle.core_tables.specs.Image.{savedIn};
+use rules::Registers;
 
 // The saved registers of context i, themselves and not a copy; there are n contexts.
 pub fn saved_at(saved: &[u64], n: usize, i: usize) -> &[u64]
@@ -34,6 +35,16 @@ fn copy(dst: &mut [u64], src: &[u64])
     for i in 0..src.len() {
         dst[i] = src[i];
     }
+}
+
+// The saved registers of context i, as the value that the rules speak of.
+pub fn registers_at(saved: &[u64], n: usize, i: usize) -> Registers
+    requires { ⌜ (length (now saved) ≡ 8 * n) × (n ≤ maxContexts) × (i < n) ⌝ }
+    ensures { λ r. ⌜ r .words ≡ (getD (savedIn n (now (saved .entry))) i zeroRegisters) .words ⌝ }
+{
+    let mut words = [0u64; 8];
+    copy(&mut words, saved_at(saved, n, i));
+    Registers { words }
 }
 
 pub fn put_saved(saved: &mut [u64], n: usize, i: usize, words: &[u64])

@@ -1,4 +1,4 @@
--- The loop's invariant: the first i bytes of dst are 0, and the others as they were. Assumes nothing.
+-- The loop's invariant: the first i bytes of dst are 0, and the others as they were.
 use mathlib.Core.Path.{_≡_, refl, ap, _∙_}
 use mathlib.Core.List.{_++_, append-nil}
 use Prim.Native.Nat.{_≤_, _-_}

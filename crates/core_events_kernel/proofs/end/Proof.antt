@@ -14,8 +14,9 @@ end-requires c κs =
 
 told-requires : tie.Need-told-requires
 told-requires c κs =
-    let a = c .before .before .before .before .before .before .before .before .before .before .before .before .before .before .before .before .before .before .before .before .before in
-    c .before .before .before .before .before .before .before .before .tables .given ∙ found _ (a .pre) .tables-long
+    let p = c .before .before .before .before .before .before .before .before in
+    let a = p .before .before .before .before .before .before .before .before .before .before .before .before .before in
+    p .tables .given ∙ found _ (a .pre) .tables-long
 
 same-length : tie.Need-same-length
 same-length c = search needs
@@ -31,10 +32,12 @@ same-length-4 c = search needs
 
 returns : tie.Need-returns
 returns c =
-    let a = c .before .before .before .before .before .before .before .before .before .before .before .before .before .before .before .before .before .before .before .before .before .before in
+    let p = c .before .before .before .before .before .before .before .before .before .before in
+    let a = p .before .before .before .before .before .before .before .before .before .before .before .before in
     let was = found _ (a .pre) in
-    let ended = c .before .before .before .before .before .before .before .before .before .before .end .ensures in
-    c .told .ensures (a .args .setup) _ _ _ _ (ended .canonical (was .canonical)) (c .before .before .before .before .before .before .before .saved .given ∙ was .saved-long)
+    let ended = p .end .ensures in
+    let long = c .before .before .before .before .before .before .before .saved .given ∙ was .saved-long in
+    c .told .ensures (a .args .setup) _ _ _ _ (ended .canonical (was .canonical)) long
     ∙ ap (λ m. ends (a .args .setup) 0 m (a .args .answer .now)) (ended .is)
     ∙ sym (end-leaves _ _ _ _ _ _ _ _ _ (a .pre))
 

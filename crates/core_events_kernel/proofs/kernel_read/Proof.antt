@@ -16,13 +16,15 @@ cast-give-span c = search needs
 
 give-span-requires : tie.Need-give-span-requires
 give-span-requires c κs =
-    let a = c .before .before .before .before .before .before .before .before .before .before .before .before .before .before .before .before .before .before .before .before in
-    read-fits _ _ _ _ _ _ _ _ (a .args .«data» .now) (a .args .answer .now) (a .pre) (c .before .before .before .before .before .before .frames .given)
+    let p = c .before .before .before .before .before .before in
+    let a = p .before .before .before .before .before .before .before .before .before .before .before .before .before .before in
+    read-fits _ _ _ _ _ _ _ _ (a .args .«data» .now) (a .args .answer .now) (a .pre) (p .frames .given)
 
 told-requires : tie.Need-told-requires
 told-requires c κs =
-    let a = c .before .before .before .before .before .before .before .before .before .before .before .before .before .before .before .before .before .before .before .before .before .before .before .before in
-    c .before .before .before .before .before .before .before .before .before .before .before .before .tables .given ∙ found _ (a .pre) .tables-long
+    let p = c .before .before .before .before .before .before .before .before .before .before .before .before in
+    let a = p .before .before .before .before .before .before .before .before .before .before .before .before in
+    p .tables .given ∙ found _ (a .pre) .tables-long
 
 same-length : tie.Need-same-length
 same-length c = search needs
@@ -38,9 +40,10 @@ same-length-4 c = search needs
 
 returns : tie.Need-returns
 returns c =
-    let a = c .before .before .before .before .before .before .before .before .before .before .before .before .before .before .before .before .before .before .before .before .before .before .before .before .before in
+    let p = c .before .before .before .before .before .before .before .before .before .before .before .before .before .before in
+    let a = p .before .before .before .before .before .before .before .before .before .before .before in
     let was = found _ (a .pre) in
-    let sealed = c .before .before .before .before .before .before .before .before .before .before .before .before .before .before .seal .ensures _ in
+    let sealed = p .seal .ensures _ in
     c .told .ensures (a .args .setup) _ _ _ _ (sealed .canonical (was .canonical)) (was .saved-long)
     ∙ read-leaves _ _ _ _ _ _ _ _ _ _ (a .pre) _ (sealed .is) (c .before .before .before .before .give-span .ensures)
 

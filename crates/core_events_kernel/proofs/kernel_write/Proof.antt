@@ -16,13 +16,15 @@ cast-put-span c = search needs
 
 put-span-requires : tie.Need-put-span-requires
 put-span-requires c κs =
-    let a = c .before .before .before .before .before .before .before .before .before .before .before .before .before .before .before .before .before .before .before in
-    write-fits _ _ _ _ _ _ _ _ (a .args .«data» .now) (a .args .answer .now) (a .pre) (c .before .before .before .before .before .frames .given)
+    let p = c .before .before .before .before .before in
+    let a = p .before .before .before .before .before .before .before .before .before .before .before .before .before .before in
+    write-fits _ _ _ _ _ _ _ _ (a .args .«data» .now) (a .args .answer .now) (a .pre) (p .frames .given)
 
 told-requires : tie.Need-told-requires
 told-requires c κs =
-    let a = c .before .before .before .before .before .before .before .before .before .before .before .before .before .before .before .before .before .before .before .before .before .before .before in
-    c .before .before .before .before .before .before .before .before .before .before .before .tables .given ∙ found _ (a .pre) .tables-long
+    let p = c .before .before .before .before .before .before .before .before .before .before .before in
+    let a = p .before .before .before .before .before .before .before .before .before .before .before .before in
+    p .tables .given ∙ found _ (a .pre) .tables-long
 
 same-length : tie.Need-same-length
 same-length c = search needs
@@ -35,9 +37,10 @@ same-length-3 c = search needs
 
 returns : tie.Need-returns
 returns c =
-    let a = c .before .before .before .before .before .before .before .before .before .before .before .before .before .before .before .before .before .before .before .before .before .before .before .before in
+    let p = c .before .before .before .before .before .before .before .before .before .before .before .before .before in
+    let a = p .before .before .before .before .before .before .before .before .before .before .before in
     let was = found _ (a .pre) in
-    let sealed = c .before .before .before .before .before .before .before .before .before .before .before .before .before .seal .ensures _ in
+    let sealed = p .seal .ensures _ in
     c .told .ensures (a .args .setup) _ _ _ _ (sealed .canonical (was .canonical)) (was .saved-long)
     ∙ write-leaves _ _ _ _ _ _ _ _ _ _ (a .pre) _ (sealed .is) (c .before .before .before .before .put-span .ensures)
 

@@ -10,7 +10,7 @@ use Rattle.rules.specs.declared.Tables.{Tables}
 use Rattle.rules.specs.declared.Event.the-variants.{Cloak}
 use Rattle.core_tables.specs.Image.{tablesIn}
 use Rattle.core_refuse.proofs.Orders.{ofRow, records-refused, records-passed, records-told}
-use Rattle.core_refuse.proofs.Needs.{own-frame}
+use Rattle.core_tables.proofs.Homes.{own-frame}
 use borrow.Author.Needs.{needs}
 use Rattle.core_refuse.proofs.standing.cloak.Statement.{statement}
 use Rattle.core_refuse.proofs.standing.cloak.Tie as tie

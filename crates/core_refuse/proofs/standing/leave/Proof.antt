@@ -8,7 +8,7 @@ use Rattle.core_tables.specs.Image.{tablesIn}
 use Rattle.core_refuse.proofs.Orders.{none-needed}
 use Rattle.rules.specs.declared.Event.the-variants.{Leave}
 use native.Mathlib.Omega.{arith}
-use Rattle.core_refuse.proofs.Homes.{home}
+use Rattle.core_tables.proofs.Homes.{home}
 use borrow.Author.Needs.{needs}
 use Rattle.core_refuse.proofs.standing.leave.Statement.{statement}
 use Rattle.core_refuse.proofs.standing.leave.Tie as tie

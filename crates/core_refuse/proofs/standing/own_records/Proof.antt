@@ -1,6 +1,6 @@
 -- `standing::own_records` meets its contract: the context's domain and the page are within the tables.
 use native.Mathlib.Omega.{arith}
-use Rattle.core_refuse.proofs.Homes.{home}
+use Rattle.core_tables.proofs.Homes.{home}
 use borrow.Author.Needs.{needs}
 use Rattle.core_refuse.proofs.standing.own_records.Statement.{statement}
 use Rattle.core_refuse.proofs.standing.own_records.Tie as tie

@@ -6,7 +6,7 @@ use Rattle.core_tables.specs.Image.{tablesIn}
 use Rattle.core_refuse.proofs.Orders.{none-needed}
 use Rattle.rules.specs.declared.Event.the-variants.{Spawn}
 use native.Mathlib.Omega.{arith}
-use Rattle.core_refuse.proofs.Homes.{home}
+use Rattle.core_tables.proofs.Homes.{home}
 use borrow.Author.Needs.{needs}
 use Rattle.core_refuse.proofs.standing.spawn.Statement.{statement}
 use Rattle.core_refuse.proofs.standing.spawn.Tie as tie

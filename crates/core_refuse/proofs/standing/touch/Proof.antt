@@ -13,7 +13,8 @@ use Rattle.rules.specs.declared.Tables.{Tables}
 use Rattle.rules.specs.declared.Event.the-variants.{Read}
 use Rattle.core_tables.specs.Image.{tablesIn}
 use Rattle.core_refuse.proofs.Orders.{ofRow, records-refused, records-passed, none-needed, records-told}
-use Rattle.core_refuse.proofs.Needs.{own-frame, own-needed}
+use Rattle.core_tables.proofs.Homes.{own-frame}
+use Rattle.core_refuse.proofs.Needs.{own-needed}
 use borrow.Author.Needs.{needs}
 use Rattle.core_refuse.proofs.standing.touch.Statement.{statement}
 use Rattle.core_refuse.proofs.standing.touch.Tie as tie
