@@ -1,5 +1,5 @@
--- The words of demand 3's second half: what a run's own events and answers tell, looking back, of a context and of a page. Nothing
--- here asks a machine's tables or bytes. Assumes nothing.
+-- Words of demand 3's second half: what a run's own events and answers tell, looking back, of a context and of a page. Nothing
+-- here asks a machine's tables or bytes.
 use mathlib.Core.List.{List, [], _∷_}
 use mathlib.Core.Bool.{Bool, true, false, cond}
 use Prim.Native.Nat.{ℕ, _+_, _-_}

@@ -1,4 +1,5 @@
--- The words of the converse: when a page that is touched is found in its frame, and which signature it bears. Assumes nothing.
+-- Words for a page that comes back stale: a context that touches its own page, the signature that the page bears, and when its domain
+-- stops.
 use mathlib.Core.Path.{_≡_}
 use mathlib.Core.Logic.{_≢_}
 use mathlib.Core.Bool.{Bool, false}

@@ -1,4 +1,4 @@
--- The words of the theorems on reached states. Assumes nothing.
+-- Words of the theorems on reached states: the machine that a run reaches, what it answers, and when clean pages agree with the store.
 use mathlib.Core.Path.{_≡_}
 use mathlib.Core.List.{List}
 use Prim.Native.Nat.{ℕ, _<_}

@@ -1,1 +1,1 @@
-// What holds in every state that a run reaches from a fresh start: see specs/ for the words and proofs/Reached.antt for the theorems.
+// What holds in every state that a run reaches from a fresh start: see specs/ for the words and proofs/Main.antt for the theorems.

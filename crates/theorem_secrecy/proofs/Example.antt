@@ -1,4 +1,4 @@
--- The premises of `secret` can be met by runs whose secrets differ. By computation. Assumes nothing.
+-- The premises of `secret` can be met by runs whose secrets differ: two such runs, worked out.
 use mathlib.Core.Path.{_≡_, refl, sym, ap}
 use mathlib.Core.Logic.{_≢_}
 use mathlib.Core.List.{List, [], _∷_, map}
@@ -14,13 +14,13 @@ use Rattle.rules.specs.declared.Setup.{Setup}
 use Rattle.rules.specs.declared.Tables.{Tables}
 use Rattle.rules.specs.declared.TrapKind.the-variants.{Call}
 use Rattle.rules.specs.declared.Event.{Event}
-use Rattle.rules.specs.declared.Event.the-variants.{Begin, End, Map, Unmap, KernelRead, KernelWrite, Resume, Spawn, Leave, Cloak, Uncloak, Read, Write, Trap}
-use Rattle.rules.proofs.Facts.{passes, all-at}
+use Rattle.rules.specs.declared.Event.the-variants.{Begin, End, Map, Unmap, KernelRead, KernelWrite, Resume, Spawn, Leave, Cloak, Uncloak}
+use Rattle.rules.specs.declared.Event.the-variants.{Read, Write, Trap}
+use Rattle.rules.proofs.Tests.{passes, all-at, same-bytes}
 use Rattle.rules.proofs.Computing.{computing}
-use Rattle.theorem_reached.proofs.Bringing.{same-bytes}
 use Rattle.theorem_secrecy.specs.Secrets.{registerOf, mayBeSeen, SameButSecrets, DifferInSecrets, DifferOnlyInSecrets, transcript}
 use Rattle.theorem_secrecy.specs.TwoServices.{one, other}
-use Rattle.theorem_secrecy.proofs.Secrecy.{same-transcript}
+use Rattle.theorem_secrecy.proofs.Main.{same-transcript}
 
 -- Each run gives what is written down for it: the service is given another byte and other registers in the one than in the other,
 -- and the kernel the same.
@@ -29,7 +29,8 @@ unfolding computing
 services-hold = refl
 
 -- They start over different lent bytes,
-pub both-start : (startRefusal example (replicate 32 255) (replicate 32 255) ≡ 0) × (startRefusal example (replicate 32 1) (replicate 32 2) ≡ 0)
+pub both-start : (startRefusal example (replicate 32 255) (replicate 32 255) ≡ 0)
+    × (startRefusal example (replicate 32 1) (replicate 32 2) ≡ 0)
 unfolding computing
 both-start = (refl, refl)
 
@@ -100,7 +101,8 @@ differ-in-secrets = (
 pub services-same : transcript example (start example (replicate 32 255) (replicate 32 255)) (one .asks)
     ≡ transcript example (start example (replicate 32 1) (replicate 32 2)) (other .asks)
 services-same =
-    same-transcript example (replicate 32 255) (replicate 32 1) (replicate 32 255) (replicate 32 2) (both-start .0) (both-start .1) (one .asks) (other .asks)
+    same-transcript example (replicate 32 255) (replicate 32 1) (replicate 32 255) (replicate 32 2) (both-start .0) (both-start .1)
+    (one .asks) (other .asks)
     differ-in-secrets
 
 -- though the runs are not the same: the services read different bytes.

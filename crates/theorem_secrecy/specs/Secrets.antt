@@ -1,5 +1,5 @@
--- The words of demand 3's first half: when two runs differ only in what is the application's alone, and what is the same to the
--- kernel at a point of both. Assumes nothing.
+-- Words of demand 3's first half: when two runs differ only in what is the application's alone, and what is the same to the
+-- kernel at a point of both.
 use mathlib.Core.Path.{_≡_}
 use mathlib.Core.List.{List, [], _∷_}
 use mathlib.Core.Bool.{Bool, true, false, not, cond}

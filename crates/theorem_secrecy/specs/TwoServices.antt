@@ -1,5 +1,5 @@
 -- Two runs that differ in secrets alone. The service writes a byte to its private page; the kernel reads the frame; the service
--- reads the byte back, calls the kernel with register 0 and 7 shown, and is resumed with 9. Assumes nothing.
+-- reads the byte back, calls the kernel with registers 0 and 7 shown, and is resumed with 9.
 use mathlib.Core.List.{[], _∷_}
 use Prim.Native.Nat.{ℕ}
 use Rattle.rules.specs.Example.{Run, then, says, quiet, S0, A, kernelRead, resumeOf, readOf, writeOf, registers, askWith}

@@ -1,1 +1,1 @@
-// What the kernel can learn of private pages and registers: see specs/ for the words and proofs/Secrecy.antt for the theorems.
+// What the kernel can learn of private pages and registers: see specs/ for the words and proofs/Main.antt for the theorems.
