@@ -1,16 +1,15 @@
 -- A sound state, whose saved registers are eight words each, has one image: the words of its tables and registers are readable, and hold
 -- that state again.
-use mathlib.Core.Path.{_≡_, refl, ap, _∙_}
-use mathlib.Core.List.{List, []}
+use mathlib.Core.Path.{_≡_}
 use mathlib.Core.Bool.{Bool, true, false, _||_, cond}
 use Prim.Native.Nat.{ℕ, _*_, _/_, _%_, _≤_, _<_}
 use native.Mathlib.Omega.{arith}
-use lib.ListN.{length, getD}
+use lib.ListN.{getD}
 use lib.Dec.{T, ltb, ltb→lt}
 use borrow.Author.Tests.{eq-eqb, le-ltb}
 use Rattle.rules.specs.Bytes.{sameBytes, zeros}
-use Rattle.rules.specs.Sizes.{setupInRange, domainIn, pageIn, frameIn, maxContexts, maxFrames}
-use Rattle.rules.specs.Records.{emptyDomain, freeContext, openFrame, publicPage, zeroRegisters, domainWhere, frameWhere, isFree, isUnmapped, isPublic, namesNone}
+use Rattle.rules.specs.Sizes.{setupInRange, domainIn, pageIn, frameIn, maxContexts}
+use Rattle.rules.specs.Records.{freeContext, openFrame, publicPage, zeroRegisters, domainWhere, frameWhere, isFree, isUnmapped, isPublic, namesNone}
 use Rattle.rules.specs.Sound.{begun, activitySound, contextSound, savedSound, mappingSound, placeSound, untouched, ownedSound, pageSound, namesSound, frameSound, sound}
 use Rattle.rules.specs.Asked.{Limited}
 use Rattle.rules.proofs.Facts.{each, all, passed, all-at, limited, Shaped, shaped}
@@ -30,7 +29,7 @@ use Rattle.rules.specs.declared.Place.{Place}
 use Rattle.rules.specs.declared.Place.the-variants.{Public, Clear, Sealed}
 use Rattle.rules.specs.declared.Named.the-variants.{Page}
 use Rattle.core_tables.specs.Words.{Housed}
-use Rattle.core_tables.specs.Image.{imageWords, maxEntries, stateIn, imageOf, savedWords}
+use Rattle.core_tables.specs.Image.{maxEntries, stateIn, imageOf, savedWords}
 use Rattle.core_tables.proofs.Images.{same, tell-canonical}
 use Rattle.core_tables.proofs.Encoding.{Fits, NamedFits, length-image, image-back, is-canonical, Eights, length-saved-words, saved-back}
 use Rattle.core_answer.specs.Handed.{readable}

@@ -4,9 +4,10 @@ use mathlib.Core.Path.{_≡_, refl, sym, ap, _∙_}
 use mathlib.Core.List.{List, [], _∷_, _++_, map}
 use Prim.Native.Nat.{ℕ, zero, suc, _+_, _-_, _*_, _≤_, _<_}
 use native.Mathlib.Nat.{zero-add, add-zero, add-comm}
+use native.Mathlib.Decide.{decLt}
 use native.Mathlib.Omega.{arith}
-use lib.ListN.{length, getD, take, drop, replicate, length-append, length-map, length-drop, length-replicate, getD-replicate, take-append-drop}
-use lib.Seq.{drop-at, take-at, getD-drop, drop-drop, ext-getD}
+use lib.ListN.{length, getD, take, drop, replicate, length-append, length-map, length-drop, length-replicate, getD-replicate, take-append-drop, List·getD-eq-default}
+use lib.Seq.{length-take-le, drop-at, take-at, getD-drop, drop-drop, ext-getD}
 use Rattle.rules.specs.Sizes.{maxDomains, maxContexts, maxFrames}
 use Rattle.rules.specs.Records.{emptyDomain, freeContext, openFrame, publicPage, zeroRegisters, domainWhere, frameWhere, tables}
 use Rattle.rules.specs.declared.Tables.{Tables}
@@ -30,6 +31,7 @@ use Rattle.core_tables.specs.Words.{lifeIn, lifeWord, activityIn, activi
 use Rattle.core_tables.specs.Image.{imageWords, domainsAt, contextsAt, framesAt, mappedAt, homeAt, signAt, usedAt, maxEntries, wordAt, table, domainAt, contextAt, frameAt, pageAt, tablesIn, imageOf, registersIn, savedIn, savedWords, Canonical}
 use Rattle.core_tables.proofs.Codes.{empty-code, live-code, stopped-code, free-code, running-code, interrupt-code, call-code, nothing-code, named-code, unmapped-code, mapped-code, place-code}
 use Rattle.core_tables.proofs.Images.{image-canonical}
+use Rattle.core_tables.proofs.Registers.{length-saved, saved-there, saved-past}
 
 -- the word of a record whose numbers fit, and back
 life-back : (r : Life) → lifeIn (lifeWord r) ≡ r
@@ -239,3 +241,14 @@ saved-back n saved eights long few past =
     getD-drop n saved i zeroRegisters ∙ past (n + i) (omega arith) (omega arith)
     ∙ sym (getD-replicate (maxContexts - n) i zeroRegisters zeroRegisters inside))) in
     rw (registers-back 0 n (savedWords n saved) saved eights (omega arith) refl, rest) (take-append-drop n saved)
+
+-- lent words, eight a context, are saved registers of eight words each
+pub saved-eights : (n : ℕ) (y : List ℕ) → length y ≡ 8 * n → n ≤ maxContexts → Eights (savedIn n y)
+saved-eights n y long few i = by (decLt i n) (decLt i maxContexts)
+  where
+    by : Dec (i < n) → Dec (i < maxContexts) → length ((getD (savedIn n y) i zeroRegisters) .words) ≡ 8
+    by (yes h) p = rw (saved-there n i y h) (length-take-le 8 (drop (8 * i) y) (rw length-drop (omega arith)))
+    by (no h) (yes p) = ap (λ (r : Registers). length (r .words)) (saved-past n i y (omega arith) p)
+    by (no h) (no p) =
+        ap (λ (r : Registers). length (r .words))
+        (List·getD-eq-default (savedIn n y) zeroRegisters {n = i} (rw (length-saved n y few) (omega arith)))
