@@ -16,6 +16,7 @@ use core_events_kernel::resume;
 use core_events_kernel::unmap;
 use rules::Answer;
 use rules::Event;
+use rules::Event as E;
 use rules::Setup;
 
 // The event is done, and what it leaves is answered.
@@ -28,107 +29,30 @@ pub fn perform(
     supply: &[u8],
     event: Event,
     data: &[u8],
-    answer: &mut [u8],
+    out: &mut [u8],
 ) -> Answer
-    requires { ⌜ Granted setup tables saved frames store supply event «data» answer ⌝ }
-    ensures { λ r. ⌜ Steps setup tables saved frames store supply event «data» answer r ⌝ }
+    requires { ⌜ Granted setup tables saved frames store supply event «data» out ⌝ }
+    ensures { λ r. ⌜ Steps setup tables saved frames store supply event «data» out r ⌝ }
 {
     let x = setup;
     match event {
-        Event::Begin(d, c) => begin(x, tables, saved, frames, store, supply, d, c, data, answer),
-        Event::End(d) => end(x, tables, saved, frames, store, supply, d, data, answer),
-        Event::Map(d, v, f) => map(
-            x,
-            tables,
-            saved,
-            frames,
-            store,
-            supply,
-            d,
-            v,
-            f,
-            data,
-            answer,
-        ),
-        Event::Unmap(d, v) => unmap(x, tables, saved, frames, store, supply, d, v, data, answer),
-        Event::KernelRead(f, s) => kernel_read(
-            x,
-            tables,
-            saved,
-            frames,
-            store,
-            supply,
-            f,
-            s,
-            data,
-            answer,
-        ),
-        Event::KernelWrite(f, s) => kernel_write(
-            x,
-            tables,
-            saved,
-            frames,
-            store,
-            supply,
-            f,
-            s,
-            data,
-            answer,
-        ),
-        Event::Resume(d, c) => resume(x, tables, saved, frames, store, supply, d, c, data, answer),
-        Event::Spawn(c, u) => spawn(x, tables, saved, frames, store, supply, c, u, data, answer),
-        Event::Leave(c) => leave(x, tables, saved, frames, store, supply, c, data, answer),
-        Event::Cloak(c, v) => cloak(x, tables, saved, frames, store, supply, c, v, data, answer),
-        Event::Uncloak(c, v) => uncloak(
-            x,
-            tables,
-            saved,
-            frames,
-            store,
-            supply,
-            c,
-            v,
-            data,
-            answer,
-        ),
-        Event::Read(c, v, s) => read(
-            x,
-            tables,
-            saved,
-            frames,
-            store,
-            supply,
-            c,
-            v,
-            s,
-            data,
-            answer,
-        ),
-        Event::Write(c, v, s) => write(
-            x,
-            tables,
-            saved,
-            frames,
-            store,
-            supply,
-            c,
-            v,
-            s,
-            data,
-            answer,
-        ),
-        Event::Trap(c, k, m) => trap(
-            x,
-            tables,
-            saved,
-            frames,
-            store,
-            supply,
-            c,
-            k,
-            m,
-            data,
-            answer,
-        ),
+        E::Begin(d, c) => begin(x, tables, saved, frames, store, supply, d, c, data, out),
+        E::End(d) => end(x, tables, saved, frames, store, supply, d, data, out),
+        E::Map(d, v, f) => map(x, tables, saved, frames, store, supply, d, v, f, data, out),
+        E::Unmap(d, v) => unmap(x, tables, saved, frames, store, supply, d, v, data, out),
+        E::KernelRead(f, s) => {
+            kernel_read(x, tables, saved, frames, store, supply, f, s, data, out)
+        }
+        E::KernelWrite(f, s) => {
+            kernel_write(x, tables, saved, frames, store, supply, f, s, data, out)
+        }
+        E::Resume(d, c) => resume(x, tables, saved, frames, store, supply, d, c, data, out),
+        E::Spawn(c, u) => spawn(x, tables, saved, frames, store, supply, c, u, data, out),
+        E::Leave(c) => leave(x, tables, saved, frames, store, supply, c, data, out),
+        E::Cloak(c, v) => cloak(x, tables, saved, frames, store, supply, c, v, data, out),
+        E::Uncloak(c, v) => uncloak(x, tables, saved, frames, store, supply, c, v, data, out),
+        E::Read(c, v, s) => read(x, tables, saved, frames, store, supply, c, v, s, data, out),
+        E::Write(c, v, s) => write(x, tables, saved, frames, store, supply, c, v, s, data, out),
+        E::Trap(c, k, m) => trap(x, tables, saved, frames, store, supply, c, k, m, data, out),
     }
 }

@@ -8,7 +8,6 @@ use lib.ListN.{length}
 use lib.Dec.{ltb→lt}
 use Rattle.rules.specs.Bytes.{allOf}
 use Rattle.rules.specs.Sizes.{maxFrames, contextIn, pageIn}
-use Rattle.rules.specs.Records.{domainOf}
 use Rattle.rules.specs.Asked.{Numbered}
 use Rattle.rules.specs.Events.{numbersIn, row, ownFrame, ownMapped}
 use Rattle.rules.proofs.Facts.{each, passes}
@@ -18,7 +17,6 @@ use Rattle.rules.specs.declared.Tables.{Tables}
 use Rattle.rules.specs.declared.Gvpn.{Gvpn}
 use Rattle.rules.specs.declared.Ctc.{Ctc}
 use Rattle.core_tables.specs.Image.{tablesIn}
-use Rattle.core_tables.specs.Tested.{Tested}
 use Rattle.core_tables.proofs.Homes.{home, own-frame}
 use Rattle.core_seal.specs.declared.Work.{Work}
 use Rattle.core_answer.specs.Handed.{Handed, refuses}

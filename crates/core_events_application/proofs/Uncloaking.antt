@@ -13,7 +13,6 @@ use Rattle.rules.specs.Events.{numbersIn, row, acting, does, uncloaked, zeroIfC
 use Rattle.rules.specs.Answers.{perform, performed}
 use Rattle.rules.specs.declared.Setup.{Setup}
 use Rattle.rules.specs.declared.Tables.{Tables}
-use Rattle.rules.specs.declared.Registers.{Registers}
 use Rattle.rules.specs.declared.Gppn.{Gppn}
 use Rattle.rules.specs.declared.Gvpn.{Gvpn}
 use Rattle.rules.specs.declared.Ctc.{Ctc}

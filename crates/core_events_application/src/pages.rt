@@ -61,10 +61,10 @@ fn mark_dirty(tables: &mut [u16], number: usize)
         (writtenTables number (tablesIn v (now (tables .entry))))) ⌝ }
 {
     let place = core_tables::place_at(tables, number);
-    let Place::Clear(f, _) = place else {
+    let Place::Clear(home, _) = place else {
         return;
     };
-    core_tables::put_place(tables, number, Place::Clear(f, Wear::Dirty));
+    core_tables::put_place(tables, number, Place::Clear(home, Wear::Dirty));
 }
 
 // Kind 9: what is Clear in the mapped frame is sealed, the frame becomes zero, and the page Clear there, dirty.
@@ -188,8 +188,9 @@ pub fn write(
     };
     let brought = core_seal::bring_in(setup, work, tables, frames, store, supply, f, d, v);
     let made = brought.work;
-    if brought.number != Answer::DONE {
-        return core_answer::told(tables, brought.number, made.seals, made.unveils);
+    let number = brought.number;
+    if number != Answer::DONE {
+        return core_answer::told(tables, number, made.seals, made.unveils);
     }
     core_bytes::put_span(frames, setup.size, f.0 as usize, span.off, data);
     mark_dirty(tables, own.number);

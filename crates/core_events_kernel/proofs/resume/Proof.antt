@@ -75,8 +75,8 @@ returns c =
     let kept = given .before .before .before .before in
     let a = kept .before .before .before .before .before .before .before .before .before .before .before .before in
     resume-steps _ _ _ _ _ _ _ _ _ _ (a .pre) _ _ (kept .before .before .activity-at .ensures) (kept .registers-at .ensures)
-    (given .before .before .before .word .ensures) (given .before .before .resumed .ensures) (given .give .ensures) (ran .put-activity .ensures)
-    (cleared .clear-saved .ensures) (c .before .before .before .saved .given) (c .told .ensures)
+    (given .before .before .before .word .ensures) (given .before .before .resumed .ensures) (given .give .ensures)
+    (ran .put-activity .ensures) (cleared .clear-saved .ensures) (c .before .before .before .saved .given) (c .told .ensures)
 
 pub resume-spec : {M : Type 1} → statement M
 resume-spec =

@@ -19,7 +19,7 @@ bring-in-requires c κs =
 
 told-requires : tie.Need-told-requires
 told-requires c κs =
-    let brought = c .before .before .before .before .before .before .before .before .before in
+    let brought = c .before .before .before .before .before .before .before .before in
     let own = brought .before .before .before .before .before .before .before in
     let a = own .before .before .before .before .before .before .before .before .before in
     brought .tables .given ∙ found _ (a .pre) .tables-long
@@ -35,7 +35,7 @@ same-length-3 c = search needs
 
 returns : tie.Need-returns
 returns c =
-    let bringing = c .before .before .before .before .before .before .before .before .before .before .before in
+    let bringing = c .before .before .before .before .before .before .before .before .before .before in
     let own = bringing .before .before .before .before .before .before in
     let a = own .before .before .before .before .before .before .before .before .before in
     let was = found _ (a .pre) in
@@ -48,14 +48,14 @@ cast-put-span c = search needs
 
 put-span-requires : tie.Need-put-span-requires
 put-span-requires c κs =
-    let brought = c .before .before .before .before .before .before .before .before in
+    let brought = c .before .before .before .before .before .before .before in
     let own = brought .before .before .before .before .before .before .before .before .before in
     let a = own .before .before .before .before .before .before .before .before .before in
     write-fits _ _ _ _ _ _ _ _ _ _ _ (a .pre) _ (own .own-page .ensures) (brought .frames .given)
 
 mark-dirty-requires : tie.Need-mark-dirty-requires
 mark-dirty-requires c κs =
-    let brought = c .before .before .before .before .before .before .before .before .before .before .before .before .before .before in
+    let brought = c .before .before .before .before .before .before .before .before .before .before .before .before .before in
     let own = brought .before .before .before .before .before .before .before in
     let a = own .before .before .before .before .before .before .before .before .before in
     write-marks _ _ _ _ _ _ _ _ _ _ _ (a .pre) _ (own .own-page .ensures) (brought .tables .given)
@@ -64,7 +64,7 @@ told-requires-2 : tie.Need-told-requires-2
 told-requires-2 c κs =
     let marked = c .before .before in
     let stored = marked .before .before .before .before .before in
-    let brought = stored .before .before .before .before .before .before .before .before .before .before .before in
+    let brought = stored .before .before .before .before .before .before .before .before .before .before in
     let own = brought .before .before .before .before .before .before .before in
     let a = own .before .before .before .before .before .before .before .before .before in
     marked .tables2 .given ∙ brought .tables .given ∙ found _ (a .pre) .tables-long
@@ -83,7 +83,7 @@ returns-2 c =
     let marking = c .before .before .before .before in
     let put = marking .before .before .before .before in
     let tested = put .before .before .before in
-    let bringing = tested .before .before .before .before .before .before .before .before .before in
+    let bringing = tested .before .before .before .before .before .before .before .before in
     let own = bringing .before .before .before .before .before .before in
     let a = own .before .before .before .before .before .before .before .before .before in
     let was = found _ (a .pre) in
