@@ -17,7 +17,7 @@ use Rattle.theorem_reached.proofs.Start.{start-state, step-refused}
 use Rattle.theorem_freshness.specs.Past.{Past, pastFrom}
 use Rattle.theorem_code.specs.Calls.{Memory, MayStart, MayStep, MaySteps, lastOf, tablesLeft}
 use Rattle.theorem_code.specs.Told.{answerBytes, pastOf}
-use Rattle.theorem_code.proofs.Stands.{Stands, same-tables, step-left, next-stands, taken, is-counted, start-stands}
+use Rattle.theorem_code.proofs.Stands.{Stands, same-tables, step-left, next-stands, taken, taken-right, start-stands}
 use Rattle.theorem_code.proofs.Refused.{Off, fresh-left, off-left, next-off, start-off, tooMany, too-many}
 
 pub data Follows (g : Given) (lent : Memory) (p : Left) (m : Machine) : Type 0 where
@@ -80,7 +80,7 @@ framesOf g lent b = cond b (lent .frames) (tooMany g)
 module _ (g : Given) (lent : Memory) (l : Left) (c : MayStart g lent l) where
   by : (b : Bool) → taken g lent ≡ b → Follows g lent l (start g (framesOf g lent b) (lent .store))
   unfolding framesOf
-  by true q = stands (start-stands g lent (is-counted g lent q) l c)
+  by true q = stands (start-stands g lent (taken-right g lent q) l c)
   by false q =
       off (start-off g lent q l c) (ap (λ (x : State). x .tables) (start-state g (tooMany g) (lent .store)))
       (λ a. step-refused g (tooMany g) (lent .store) (too-many g (lent .store)) (a .event) (a .new) (a .buffer))

@@ -31,11 +31,11 @@ use Rattle.theorem_secrecy.specs.Secrets as rule-secrets
 use Rattle.theorem_secrecy.specs.TwoServices.{one, other}
 use Rattle.theorem_freshness.specs.Past.{contextBy, pageBy, resumedWith}
 use Rattle.theorem_freshness.specs.Stale.{Touch, touch, touched, Distinct, bears}
-use Rattle.theorem_code.specs.Calls.{Memory, Counted, MayStep, MaySteps, CodeRun, OneImage, lastOf, point, tablesLeft, held, anyMemory}
+use Rattle.theorem_code.specs.Calls.{Memory, WordsRight, MayStep, MaySteps, CodeRun, OneImage, lastOf, point, tablesLeft, held, anyMemory}
 use Rattle.theorem_code.specs.Told.{asking, handedOn, ten, answerBytes, DifferOnlyInSecrets, SameRuns, pastOf, Stopping}
 use Rattle.theorem_code.proofs.Calls.{runs-on, start-left}
 use Rattle.theorem_code.proofs.Stands.{is-held, one-image, step-left}
-use Rattle.theorem_code.proofs.Points.{was-counted, run-stands, run-left, refused-left}
+use Rattle.theorem_code.proofs.Points.{words-right, run-stands, run-left, refused-left}
 use Rattle.theorem_code.proofs.Reached as at-point
 use Rattle.theorem_code.proofs.Freshness as fresh
 use Rattle.theorem_code.proofs.Secrecy.{run-secrets, run-secret, services-differ}
@@ -51,27 +51,27 @@ module _ {g : Given} {lent : Memory} {asks : List Ask} (r : CodeRun g lent asks)
   code-starts = start-left g lent (r .first) (r .starts)
 
   -- A start that is taken was lent as many words of tables and saved registers as the setup asks.
-  pub code-counted : r .first .answer .number ≡ 0 → Counted (g .setup) lent
-  code-counted = was-counted r
+  pub code-words-right : r .first .answer .number ≡ 0 → WordsRight (g .setup) lent
+  code-words-right = words-right r
 
   -- Lent so many words, whether its start was taken or not, the code does what the rules say, from the first call to the last.
-  module _ (counts : Counted (g .setup) lent) where
+  module _ (right : WordsRight (g .setup) lent) where
     -- The call for each event leaves answer, tables, saved registers, frames, store and answer buffer as the rules' run does.
     pub code-answers : r .lefts ≡ map (leaves (g .setup)) (run g (lent .frames) (lent .store) asks)
-    code-answers = run-left r counts
+    code-answers = run-left r right
 
     -- At each point the state and the bytes are those that the rules reach (the counts of the event under way start anew).
     pub code-reaches : held (g .setup) (point r) ≡ outset (reached g (lent .frames) (lent .store) asks)
-    code-reaches = is-held g (point r) _ (run-stands r counts)
+    code-reaches = is-held g (point r) _ (run-stands r right)
 
     -- And a further call leaves what the rules answer there.
     pub code-answers-next : (a : Ask) (l : Left) → MayStep g (point r) a l
         → l ≡ leaves (g .setup) (answered g (reached g (lent .frames) (lent .store) asks) a)
-    code-answers-next = step-left g (point r) _ (run-stands r counts)
+    code-answers-next = step-left g (point r) _ (run-stands r right)
 
     -- The words left are the one image of the state that the rules reach: they hold it, and no other words that are an image do.
     pub code-one-image : OneImage (g .setup) (point r) (stateOf (reached g (lent .frames) (lent .store) asks))
-    code-one-image = one-image g (point r) _ (run-stands r counts)
+    code-one-image = one-image g (point r) _ (run-stands r right)
 
   -- Reached states
 
@@ -150,10 +150,10 @@ module _ {g : Given} {lent : Memory} {asks : List Ask} (r : CodeRun g lent asks)
 -- Secrecy: what the administrator of the guest kernel can learn of the service's memory.
 
 -- That the events of two runs of the code differ only in secrets says the same as of the rules' runs: the moment's tables are the same.
-pub code-secrets : {g : Given} {lent : Memory} {asks : List Ask} (r : CodeRun g lent asks) → Counted (g .setup) lent → (others : List Ask)
+pub code-secrets : {g : Given} {lent : Memory} {asks : List Ask} (r : CodeRun g lent asks) → WordsRight (g .setup) lent → (others : List Ask)
     → DifferOnlyInSecrets (g .setup) (r .first) (r .lefts) asks others
     ≡ rule-secrets.DifferOnlyInSecrets g (start g (lent .frames) (lent .store)) asks others
-code-secrets r counts others = run-secrets r counts others
+code-secrets r right others = run-secrets r right others
 
 -- Two runs of the code start, each over whatever memory it was lent, and their events differ only in bytes written to pages that are
 -- private at that moment and in registers that a trap does not show.

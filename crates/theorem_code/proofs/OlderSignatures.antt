@@ -26,7 +26,7 @@ use Rattle.theorem_freshness.proofs.Main as rule
 use Rattle.theorem_code.specs.Calls.{Memory, MayStep, MaySteps, CodeRun, lastOf, point, tablesLeft, held}
 use Rattle.theorem_code.specs.Told.{asking, handedOn, Stopping}
 use Rattle.theorem_code.proofs.Stands.{Stands, handed-stands, is-held, same-tables, step-left, next-stands, last-stands}
-use Rattle.theorem_code.proofs.Points.{was-counted, rules-start, run-stands}
+use Rattle.theorem_code.proofs.Points.{words-right, rules-start, run-stands}
 
 -- a machine that stops, in the words and bytes that the call left
 stops-left : (g : Given) (p : Left) (m : Machine) → Stands g p m → (a : Ask) (l : Left) → MayStep g p a l → (d : Asid)
@@ -75,7 +75,7 @@ module _ {g : Given} {lent : Memory} {earlier : List Ask} (r : CodeRun g lent ea
   n = after g ((step g (Write c v x) new buffer m) .machine) later
 
   at-first : Stands g (point r) first
-  at-first = run-stands r (was-counted r ok)
+  at-first = run-stands r (words-right r ok)
 
   at-before : Stands g before m
   at-before = last-stands g (point r) first at-first between betweens calls

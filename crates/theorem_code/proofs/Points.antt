@@ -11,10 +11,10 @@ use Rattle.core_answer.specs.Handed.{Left, leaves}
 use Rattle.core.specs.Started.{started}
 use Rattle.theorem_reached.specs.States.{reached}
 use Rattle.theorem_freshness.specs.Past.{past}
-use Rattle.theorem_code.specs.Calls.{Memory, Counted, MayStep, CodeRun, point}
+use Rattle.theorem_code.specs.Calls.{Memory, WordsRight, MayStep, CodeRun, point}
 use Rattle.theorem_code.specs.Told.{pastOf}
 use Rattle.theorem_code.proofs.Calls.{start-left}
-use Rattle.theorem_code.proofs.Stands.{Stands, taken, is-counted, rules-refuse, start-stands, last-stands, all-left}
+use Rattle.theorem_code.proofs.Stands.{Stands, taken, taken-right, rules-refuse, start-stands, last-stands, all-left}
 use Rattle.theorem_code.proofs.Refused.{Off, leftAs, start-off, off-left, last-off}
 use Rattle.theorem_code.proofs.Follows.{Follows, framesOf, start-follows, last-follows, same-past}
 
@@ -36,21 +36,21 @@ module _ {g : Given} {lent : Memory} {asks : List Ask} (r : CodeRun g lent asks)
     pub was-taken : taken g lent ≡ true
     was-taken = is-taken (taken g lent) (sym number-told ∙ ok)
 
-    pub was-counted : Counted (g .setup) lent
-    was-counted = is-counted g lent was-taken
+    pub words-right : WordsRight (g .setup) lent
+    words-right = taken-right g lent was-taken
 
     pub rules-start : startRefusal g (lent .frames) (lent .store) ≡ 0
-    rules-start = rules-refuse g lent was-counted ∙ sym number-told ∙ ok
+    rules-start = rules-refuse g lent words-right ∙ sym number-told ∙ ok
 
-  pub run-stands : Counted (g .setup) lent → Stands g (point r) (reached g (lent .frames) (lent .store) asks)
-  run-stands counts =
-      last-stands g (r .first) (start g (lent .frames) (lent .store)) (start-stands g lent counts (r .first) (r .starts)) asks (r .lefts)
+  pub run-stands : WordsRight (g .setup) lent → Stands g (point r) (reached g (lent .frames) (lent .store) asks)
+  run-stands right =
+      last-stands g (r .first) (start g (lent .frames) (lent .store)) (start-stands g lent right (r .first) (r .starts)) asks (r .lefts)
       (r .steps)
 
-  pub run-left : Counted (g .setup) lent → r .lefts ≡ map (leaves (g .setup)) (run g (lent .frames) (lent .store) asks)
+  pub run-left : WordsRight (g .setup) lent → r .lefts ≡ map (leaves (g .setup)) (run g (lent .frames) (lent .store) asks)
   unfolding run
-  run-left counts =
-      all-left g (r .first) (start g (lent .frames) (lent .store)) (start-stands g lent counts (r .first) (r .starts)) asks (r .lefts)
+  run-left right =
+      all-left g (r .first) (start g (lent .frames) (lent .store)) (start-stands g lent right (r .first) (r .starts)) asks (r .lefts)
       (r .steps)
 
   -- a start that was refused

@@ -28,10 +28,10 @@ use Rattle.theorem_reached.specs.States.{reached, answered, CleanAgree}
 use Rattle.theorem_reached.proofs.Start.{fresh-sound}
 use Rattle.theorem_reached.proofs.Main as rule
 use Rattle.theorem_code.specs.Calls.{Memory, MayStep, CodeRun, point, tablesLeft, held}
-use Rattle.theorem_code.proofs.Stands.{taken, is-counted, is-held, same-tables, step-left, next-stands}
+use Rattle.theorem_code.proofs.Stands.{taken, taken-right, is-held, same-tables, step-left, next-stands}
 use Rattle.theorem_code.proofs.Refused.{fresh-left}
 use Rattle.theorem_code.proofs.Follows.{follows-tables, follows-next, follows-answer}
-use Rattle.theorem_code.proofs.Points.{was-counted, rules-start, run-stands, run-off, ran, run-follows}
+use Rattle.theorem_code.proofs.Points.{words-right, rules-start, run-stands, run-off, ran, run-follows}
 
 -- fresh tables are sound with whatever words the saved registers of the setup's contexts are
 module _ (s : Setup) (y : List ℕ) (few : s .contexts ≤ maxContexts) where
@@ -73,7 +73,7 @@ module _ {g : Given} {lent : Memory} {asks : List Ask} (r : CodeRun g lent asks)
     where
       by : (b : Bool) → taken g lent ≡ b → sound (g .setup) (stateIn (g .setup) (p .tables) (p .saved)) ≡ true
       by true q =
-          ap (λ (m : Machine). sound (g .setup) (stateOf m)) (is-held g p _ (run-stands r (is-counted g lent q)))
+          ap (λ (m : Machine). sound (g .setup) (stateOf m)) (is-held g p _ (run-stands r (taken-right g lent q)))
           ∙ rule.reached-sound g (lent .frames) (lent .store) asks
       by false q =
           ap (λ (t : Tables). sound (g .setup) (record { tables = t; saved = savedIn (g .setup .contexts) (p .saved) }))
@@ -103,11 +103,11 @@ module _ {g : Given} {lent : Memory} {asks : List Ask} (r : CodeRun g lent asks)
       pub next-not-10 : l .answer .number ≢ 10
       next-not-10 is-10 =
           rule.never-10 g (lent .frames) (lent .store) asks (rules-start r ok) a
-          (sym (ap (λ (x : Left). x .answer .number) (step-left g p _ (run-stands r (was-counted r ok)) a l c)) ∙ is-10)
+          (sym (ap (λ (x : Left). x .answer .number) (step-left g p _ (run-stands r (words-right r ok)) a l c)) ∙ is-10)
 
       pub next-used-told : l .answer .used ≡ (tablesLeft (g .setup) l) .used
       next-used-told =
-          let at = run-stands r (was-counted r ok) in
+          let at = run-stands r (words-right r ok) in
           ap (λ (x : Left). x .answer .used) (step-left g p _ at a l c)
           ∙ rule.used-told g (lent .frames) (lent .store) asks (rules-start r ok) a
           ∙ sym (ap (λ (t : Tables). t .used) (same-tables g l _ (next-stands g p _ at a l c)))
@@ -119,7 +119,7 @@ module _ {g : Given} {lent : Memory} {asks : List Ask} (r : CodeRun g lent asks)
     where
       by : (b : Bool) → taken g lent ≡ b → CleanAgree (g .setup) (held (g .setup) p)
       by true q =
-          subst (CleanAgree (g .setup)) (sym (is-held g p _ (run-stands r (is-counted g lent q))))
+          subst (CleanAgree (g .setup)) (sym (is-held g p _ (run-stands r (taken-right g lent q))))
           (rule.clean-agree g (lent .frames) (lent .store) asks)
       by false q = λ d v f k hd hv e.
           let public : placeOf (g .setup) (tablesLeft (g .setup) p) d v ≡ Public =

@@ -13,15 +13,15 @@ use Rattle.theorem_secrecy.specs.Secrets as rule-secrets
 use Rattle.theorem_secrecy.specs.TwoServices.{one, other}
 use Rattle.theorem_secrecy.proofs.Main as rule
 use Rattle.theorem_secrecy.proofs.Example.{differ-in-secrets}
-use Rattle.theorem_code.specs.Calls.{Memory, Counted, CodeRun, anyMemory}
+use Rattle.theorem_code.specs.Calls.{Memory, WordsRight, CodeRun, anyMemory}
 use Rattle.theorem_code.specs.Told.{DifferOnlyInSecrets, SameRuns}
 use Rattle.theorem_code.proofs.Stands.{Stands, start-stands}
 use Rattle.theorem_code.proofs.TwoRuns.{same-secrets, same-runs}
-use Rattle.theorem_code.proofs.Points.{was-counted, rules-start}
+use Rattle.theorem_code.proofs.Points.{words-right, rules-start}
 
-module _ {g : Given} {lent : Memory} {asks : List Ask} (r : CodeRun g lent asks) (counts : Counted (g .setup) lent) where
+module _ {g : Given} {lent : Memory} {asks : List Ask} (r : CodeRun g lent asks) (right : WordsRight (g .setup) lent) where
   pub starts-at : Stands g (r .first) (start g (lent .frames) (lent .store))
-  starts-at = start-stands g lent counts (r .first) (r .starts)
+  starts-at = start-stands g lent right (r .first) (r .starts)
 
   pub run-secrets : (others : List Ask)
       → DifferOnlyInSecrets (g .setup) (r .first) (r .lefts) asks others
@@ -33,15 +33,15 @@ module _ {g : Given} {lent lent′ : Memory} {asks others : List Ask} (r : CodeR
     (secrets : DifferOnlyInSecrets (g .setup) (r .first) (r .lefts) asks others) where
   pub run-secret : SameRuns g (r .first) (q .first) asks others (r .lefts) (q .lefts)
   run-secret =
-      let counts = was-counted r ok in
-      same-runs g (r .first) (q .first) (start g (lent .frames) (lent .store)) (start g (lent′ .frames) (lent′ .store)) (starts-at r counts)
-      (starts-at q (was-counted q ok′)) asks others (r .lefts) (q .lefts) (r .steps) (q .steps)
+      let right = words-right r ok in
+      same-runs g (r .first) (q .first) (start g (lent .frames) (lent .store)) (start g (lent′ .frames) (lent′ .store)) (starts-at r right)
+      (starts-at q (words-right q ok′)) asks others (r .lefts) (q .lefts) (r .steps) (q .steps)
       (rule.secret g (lent .frames) (lent′ .frames) (lent .store) (lent′ .store) (rules-start r ok) (rules-start q ok′) asks others
-      (transport (run-secrets r counts others) secrets))
+      (transport (run-secrets r right others) secrets))
 
 -- the two services of `theorem_secrecy`
-small-counts : Counted small (anyMemory small)
-small-counts =
+small-right : WordsRight small (anyMemory small)
+small-right =
     let largest : ℕ = 255 in
     record {
       tables = length-replicate imageWords largest;
@@ -51,4 +51,4 @@ small-counts =
 
 pub services-differ : (r : CodeRun example (anyMemory small) (one .asks))
     → DifferOnlyInSecrets small (r .first) (r .lefts) (one .asks) (other .asks)
-services-differ r = transport⁻¹ (run-secrets r small-counts (other .asks)) differ-in-secrets
+services-differ r = transport⁻¹ (run-secrets r small-right (other .asks)) differ-in-secrets

@@ -27,7 +27,7 @@ use Rattle.theorem_reached.specs.States.{answered}
 use Rattle.theorem_reached.proofs.DoneOrRefused.{step-sound}
 use Rattle.theorem_reached.proofs.Start.{fresh-sound, start-state, step-refused}
 use Rattle.theorem_reached.proofs.Eights.{Eights, step-eights, start-eights}
-use Rattle.theorem_code.specs.Calls.{Memory, Counted, MayStart, MayStep, MaySteps, OneImage, lastOf, tablesLeft, held}
+use Rattle.theorem_code.specs.Calls.{Memory, WordsRight, MayStart, MayStep, MaySteps, OneImage, lastOf, tablesLeft, held}
 use Rattle.theorem_code.specs.Told.{handedOn}
 use Rattle.theorem_code.proofs.Calls.{startedOver, start-left, step-words}
 use Rattle.theorem_code.proofs.Fresh.{Imaged, fresh-tables, fresh-saved, fresh-imaged}
@@ -170,9 +170,9 @@ module _ (g : Given) (lent : Memory) where
     both true b e = tt
     both false b e = passed false e
 
-    pub is-counted : Counted (g .setup) lent
+    pub taken-right : WordsRight (g .setup) lent
     unfolding lentRight
-    is-counted =
+    taken-right =
         let e = each _ (both (lentRight (g .setup) (lent .tables) (lent .saved) (lent .frames) (lent .store)) _ t) in
         record {
           tables = eqb→eq _ _ (e .1 .0);
@@ -180,11 +180,11 @@ module _ (g : Given) (lent : Memory) where
           contexts = limited (g .setup) (e .0) .contexts;
         }
 
-  module _ (counts : Counted (g .setup) lent) where
+  module _ (right : WordsRight (g .setup) lent) where
     pub rules-take : taken ≡ rulesTake
     unfolding lentRight allOf
     rules-take =
-        rw (eq-eqb _ _ (counts .tables), eq-eqb _ _ (counts .saved))
+        rw (eq-eqb _ _ (right .tables), eq-eqb _ _ (right .saved))
         (same-tests (setupInRange (g .setup)) (framesRight (g .setup) (lent .frames)) (storeRight (g .setup) (lent .store))
         (supplyRight (g .setup) (g .supply)))
 
@@ -209,7 +209,7 @@ module _ (g : Given) (lent : Memory) where
         (subst (λ (x : State). T (sound (g .setup) x)) fresh (fresh-sound (g .setup))) (start-eights g (lent .frames) (lent .store))
     start-goes false q =
         let fresh = sym (start-state g (lent .frames) (lent .store)) in
-        stuck (subst (λ (x : State). Imaged (g .setup) x) fresh (fresh-imaged (g .setup) (counts .contexts)))
+        stuck (subst (λ (x : State). Imaged (g .setup) x) fresh (fresh-imaged (g .setup) (right .contexts)))
         (λ a. step-refused g (lent .frames) (lent .store) (rules-refuse ∙ ap (λ (b : Bool). cond b 0 10) q) (a .event) (a .new) (a .buffer))
 
     pub start-stands : (l : Left) → MayStart g lent l → Stands g l (start g (lent .frames) (lent .store))
@@ -219,10 +219,10 @@ module _ (g : Given) (lent : Memory) where
         let fresh = sym (start-state g (lent .frames) (lent .store)) in
         record {
           tables =
-              ap (λ (x : Left). x .tables) e ∙ ap zeros (counts .tables) ∙ fresh-tables (g .setup .pages)
+              ap (λ (x : Left). x .tables) e ∙ ap zeros (right .tables) ∙ fresh-tables (g .setup .pages)
               ∙ ap (λ (x : State). imageOf (g .setup .pages) (x .tables)) fresh;
           saved =
-              ap (λ (x : Left). x .saved) e ∙ ap zeros (counts .saved) ∙ fresh-saved (g .setup .contexts) (counts .contexts)
+              ap (λ (x : Left). x .saved) e ∙ ap zeros (right .saved) ∙ fresh-saved (g .setup .contexts) (right .contexts)
               ∙ ap (λ (x : State). savedWords (g .setup .contexts) (x .saved)) fresh;
           frames = ap (λ (x : Left). x .frames) e ∙ frames-left taken refl;
           store = ap (λ (x : Left). x .store) e ∙ store-left taken refl;

@@ -40,7 +40,7 @@ anyMemory s =
     }
 
 -- the words are as many as the setup asks
-pub record Counted (s : Setup) (lent : Memory) : Type 0 where
+pub record WordsRight (s : Setup) (lent : Memory) : Type 0 where
   pub tables : length (lent .tables) ≡ imageWords
   pub saved : length (lent .saved) ≡ 8 * s .contexts
   pub contexts : s .contexts ≤ maxContexts
