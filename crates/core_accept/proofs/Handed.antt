@@ -89,11 +89,12 @@ of {s} l =
 pub products : (s : Setup) → setupInRange s ≡ true → Products s
 products s e = of (limited s (passed (setupInRange s) e))
 
-second : (a b : Bool) → T (a && b) → T b
-second true b t = t
-second false b t = absurd t
+-- two tests that hold together
+pub both-hold : (a b : Bool) → a && b ≡ true → T a × T b
+both-hold true b e = (tt, passed b e)
+both-hold false b e = absurd (let z : _≡_ {A = ℕ} 0 1 = cc in omega arith)
 
 pub looked-products : (s : Setup) (x y frames store : List ℕ) → lookableIn s x y frames store ≡ true → Products s
 looked-products s x y frames store e =
-    let looked = lookable-facts _ _ (second (readable s x y) _ (passed _ e)) in
+    let looked = lookable-facts _ _ (both-hold (readable s x y) _ e .1) in
     of (looked .sizes)

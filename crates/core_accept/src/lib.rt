@@ -2,8 +2,8 @@
 // anything, so nothing is asked: the result is the rules' for every setup and all that is lent.
 ghost use mathlib.Core.Path.{_≡_};
 ghost use Rattle.core_accept.specs.Acceptable.{lentRight, startableIn, lookableIn, acceptableIn};
-use core_refuse_event::both;
 use rules::Setup;
+use rules::both;
 
 // Whether the setup is in range, and as many words and bytes are lent as it asks.
 fn lent(setup: Setup, tables: &[u16], saved: &[u64], frames: &[u8], store: &[u8]) -> bool

@@ -27,6 +27,7 @@ use Rattle.core_tables.specs.Image.{imageWords, tablesIn, stateIn}
 use Rattle.core_answer.specs.Handed.{readable}
 use Rattle.core_answer.proofs.Laws.{is-readable}
 use Rattle.core_accept.specs.Acceptable.{lookableIn}
+use Rattle.core_accept.proofs.Handed.{both-hold}
 use Rattle.core_look.specs.Look.{Pointer, past, contentsFrom, lookFrom, lookNumber, lookBytes}
 
 pub record Within (s : Setup) (x y frames store : List ℕ) (d : Asid) (v : Gvpn) : Type 0 where
@@ -39,10 +40,6 @@ unrefused : (a b c : Bool) → _≡_ {A = ℕ} (cond (not a) 10 (cond (not b) 2 
 unrefused true true c e = (refl, refl)
 unrefused true false c e = absurd (eqb-false 2 0 refl e)
 unrefused false b c e = absurd (eqb-false 10 0 refl e)
-
-both-hold : (a b : Bool) → a && b ≡ true → T a × T b
-both-hold true b e = (tt, passed b e)
-both-hold false b e = absurd (let z : _≡_ {A = ℕ} 0 1 = cc in omega arith)
 
 -- the place of a page, by its number
 pub place-read : (s : Setup) (x : List ℕ) (d : Asid) (v : Gvpn) {n : ℕ} {p : Place} → n ≡ pageNumber s d v

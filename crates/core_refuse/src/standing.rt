@@ -9,7 +9,6 @@ ghost use Rattle.rules.specs.Answers.{firstOf};
 ghost use Rattle.core_tables.specs.Image.{tablesIn};
 ghost use Rattle.core_tables.specs.Tested.{Tested};
 ghost use Rattle.core_refuse.specs.Stages.{recordChecks, sealChecks, standing, ownOf};
-use core_refuse_event::both;
 use rules::Activity;
 use rules::Answer;
 use rules::Asid;
@@ -22,6 +21,7 @@ use rules::Mapping;
 use rules::Place;
 use rules::Setup;
 use rules::Span;
+use rules::both;
 
 // The order of the checks on records.
 fn fit(condition: bool, live: bool, mapped: bool) -> u8

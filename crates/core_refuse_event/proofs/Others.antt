@@ -1,5 +1,4 @@
 -- A `match` on an event that names some kinds leaves the rest to one arm, which is told that the kind is one of those.
--- Assumes nothing.
 use mathlib.Core.Path.{_≡_, refl}
 use mathlib.Core.List.{List, [], _∷_}
 use mathlib.Core.Bool.{true}
@@ -11,7 +10,8 @@ use Rattle.rules.proofs.Event.{the-type}
 use Rattle.core_refuse_event.specs.Stages.{ShapeOf, shapeWith}
 use Rattle.rules.specs.declared.Setup.{Setup}
 use Rattle.rules.specs.declared.Event.{Event}
-use Rattle.rules.specs.declared.Event.the-variants.{Begin, End, Map, Unmap, KernelRead, KernelWrite, Resume, Spawn, Leave, Cloak, Uncloak, Read, Write, Trap}
+use Rattle.rules.specs.declared.Event.the-variants.{Begin, End, Map, Unmap, KernelRead, KernelWrite, Resume, Spawn, Leave}
+use Rattle.rules.specs.declared.Event.the-variants.{Cloak, Uncloak, Read, Write, Trap}
 use Rattle.core_refuse_event.specs.declared.Shape.{Shape}
 
 -- all kinds but those with a span, resume and trap

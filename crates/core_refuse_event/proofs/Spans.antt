@@ -1,4 +1,4 @@
--- A span's end is tested without the sum of its numbers. Assumes nothing.
+-- A span's end is tested without the sum of its numbers.
 use mathlib.Core.Path.{_≡_, sym, _∙_}
 use Prim.Native.Nat.{ℕ, _+_, _-_, _≤_}
 use native.Mathlib.Decide.{decLe}

@@ -1,4 +1,4 @@
--- The first of the rules' checks of an event (`checks`, specs/Answers.antt there): those that ask no table. Assumes nothing.
+-- The first of the rules' checks of an event (`checks`, specs/Answers.antt there): those that ask no table.
 use mathlib.Core.Path.{_≡_}
 use mathlib.Core.List.{List, [], _∷_}
 use mathlib.Core.Bool.{Bool, not}

@@ -14,13 +14,7 @@ use rules::Event;
 use rules::Setup;
 use rules::Span;
 use rules::TrapKind;
-
-// Both of two tests hold.
-pub fn both(a: bool, b: bool) -> bool
-    ensures { λ r. ⌜ r ≡ allOf (a ∷ b ∷ []) ⌝ }
-{
-    if a { b } else { false }
-}
+use rules::both;
 
 // All of three tests hold.
 fn all_three(a: bool, b: bool, c: bool) -> bool

@@ -1,41 +1,16 @@
--- Laws of the rules' big-endian numbers, each over the width: a byte, a word or a register more. Assumes nothing.
+-- Laws of the rules' words in bytes, registers shown and registers given, each for one register more.
 use mathlib.Core.Path.{_≡_, refl, sym, ap, ap₂, _∙_}
-use mathlib.Core.List.{List, [], _∷_, _++_, append-assoc}
-use Prim.Native.Nat.{ℕ, zero, suc, _+_, _-_, _*_, _/_, _^_, _≤_, _<_}
-use native.Mathlib.Nat.{zero-add, add-zero, add-comm, suc-add, add-suc, pow-suc, suc-mul, mul-assoc, add-assoc, add-mul, div-div-eq-div-mul, lt-of-lt-of-le, pow-le-pow-right, add-sub-cancel-left}
+use mathlib.Core.List.{List, [], _∷_, _++_, append-assoc, append-nil}
+use Prim.Native.Nat.{ℕ, zero, suc, _+_, _-_, _*_, _≤_, _<_}
+use native.Mathlib.Nat.{zero-add, add-zero, add-comm, suc-add, add-suc, suc-mul, add-sub-cancel-left}
 use native.Mathlib.Omega.{arith}
 use native.Mathlib.Numerals.{add-one}
-use lib.ListN.{length, getD, set, take, drop, length-append, length-set}
-use lib.Seq.{take-suc, take-at, drop-at, length-take-le, drop-cons, drop-set-lt, getD-set-same, drop-drop, take-all, set-getD}
-use lib.Arith.{digits-lt}
-use lib.Dec.{lit<}
+use lib.ListN.{length, getD, set, take, drop, length-append, length-take, drop-of-length-le}
+use lib.Seq.{take-suc, take-at, drop-at, length-take-le, drop-drop, take-all, set-getD}
 use borrow.Rule.Slice.PartMut.{putMid}
 use Rattle.rules.specs.Bytes.{bigEndian, number, wordsIn, bytesOf, mapFrom, overlay}
 use Rattle.rules.proofs.Parts.{overlay-is}
-
--- number: one byte more
-pub number-more : (xs : List ℕ) (b : ℕ) → number (xs ++ (b ∷ [])) ≡ number xs * 256 + b
-unfolding number
-number-more [] b = omega arith
-number-more (x ∷ xs) b =
-    rw (number-more xs b, length-append xs (b ∷ []), add-suc, add-zero, pow-suc, ← mul-assoc, add-mul, add-assoc)
-
--- a number of i bytes, and one of seven
-pub below-more : {n b : ℕ} (i : ℕ) → n < 256 ^ i → b < 256 → n * 256 + b < 256 ^ suc i
-below-more i h k = rw pow-suc (digits-lt h k)
-
-pub below-seven : {n : ℕ} (i : ℕ) → i < 8 → n < 256 ^ i → n < 256 ^ 7
-below-seven i short h = let seven : i ≤ 7 = omega arith in lt-of-lt-of-le h (pow-le-pow-right (lit< tt) seven)
-
--- bigEndian: what is left once i bytes are written, and one byte more in front
-pub quotient-more : (x i : ℕ) → x / 256 ^ i / 256 ≡ x / 256 ^ suc i
-quotient-more x i = rw (pow-suc, div-div-eq-div-mul)
-
-pub front-more : (l : List ℕ) (j v : ℕ) → j < length l → drop j (set l j v) ≡ v ∷ drop (suc j) l
-front-more l j v h =
-    let k : j < length (set l j v) = rw length-set h in
-    rw (drop-cons (set l j v) j 0 k, getD-set-same l j v 0 h)
-    (ap (λ (t : List ℕ). v ∷ t) (drop-set-lt (suc j) l j v (omega arith)))
+use Rattle.rules.proofs.BigEndian.{length-bigEndian}
 
 -- wordsIn: one word more
 pub words-more : (n : ℕ) (bytes : List ℕ)
@@ -49,11 +24,6 @@ pub bytes-append : (xs ys : List ℕ) → bytesOf (xs ++ ys) ≡ bytesOf xs ++ b
 unfolding bytesOf
 bytes-append [] ys = refl
 bytes-append (x ∷ xs) ys = rw (bytes-append xs ys, append-assoc)
-
-length-bigEndian : (n x : ℕ) → length (bigEndian n x) ≡ n
-unfolding bigEndian
-length-bigEndian zero x = refl
-length-bigEndian (suc n) x = ap suc (length-bigEndian n x)
 
 pub length-bytesOf : (xs : List ℕ) → length (bytesOf xs) ≡ length xs * 8
 unfolding bytesOf
@@ -87,14 +57,23 @@ module _ (words old : List ℕ) (i : ℕ) (inside : i < length words) where
   length-front : length front ≡ i * 8
   length-front = length-bytesOf (take i words) ∙ ap (λ (n : ℕ). n * 8) (length-take-le i words (omega arith))
 
+  -- the part of the buffer that the register is stored in has room for nothing else
+  abbrev part : List ℕ → List ℕ
+  part now = take (i * 8 + 8 - i * 8) (drop (i * 8) now)
+
+  no-more : (now : List ℕ) → drop 8 (part now) ≡ []
+  no-more now = drop-of-length-le (part now) {i = 8} (simp length-take (omega arith))
+
   pub give-more : (now new : List ℕ)
-      → now ≡ bytesOf (take i words) ++ drop (i * 8) old → new ≡ bigEndian 8 (getD words i 0)
+      → now ≡ bytesOf (take i words) ++ drop (i * 8) old → new ≡ bigEndian 8 (getD words i 0) ++ drop 8 (part now)
       → putMid (i * 8) (i * 8 + 8 - i * 8) now new ≡ bytesOf (take (i + 1) words) ++ drop ((i + 1) * 8) old
   unfolding bytesOf
   give-more now new e f =
       rw (
-        e,
         f,
+        no-more now,
+        append-nil,
+        e,
         add-sub-cancel-left (i * 8) 8,
         take-at front (drop (i * 8) old) (i * 8) length-front,
         drop-at front (drop (i * 8) old) (i * 8) length-front,

@@ -5,7 +5,7 @@ ghost use mathlib.Core.Bool.{cond};
 ghost use mathlib.Core.List.{List};
 ghost use Prim.Native.Nat.{ℕ, _<_, _≤_};
 ghost use lib.ListN.{length, getD, set};
-ghost use Rattle.rules.specs.Bytes.{bigEndian, number, wordsIn, bytesOf, overlay};
+ghost use Rattle.rules.specs.Bytes.{number, wordsIn, bytesOf, overlay};
 ghost use Rattle.rules.specs.Events.{shows, shown, resumed};
 use rules::Activity;
 use rules::Registers;
@@ -16,13 +16,7 @@ pub fn word(bytes: &[u8]) -> u64
     requires { ⌜ length (now bytes) ≡ 8 ⌝ }
     ensures { λ r. ⌜ r ≡ number (now (bytes .entry)) ⌝ }
 {
-    let mut n: u64 = 0;
-    let mut i = 0;
-    while i < 8 {
-        n = n * 256 + bytes[i] as u64;
-        i += 1;
-    }
-    n
+    numbers::load(bytes, 8)
 }
 
 // The eight registers that 64 bytes are.
@@ -41,21 +35,6 @@ pub fn load(bytes: &[u8]) -> Registers
     Registers { words }
 }
 
-// The eight bytes of a number, from the last to the first: each is what the ones after it leave.
-fn spell(x: u64, bytes: &mut [u8])
-    requires { ⌜ length (now bytes) ≡ 8 ⌝ }
-    ensures { λ _. ⌜ now (bytes .exit) ≡ bigEndian 8 x ⌝ }
-{
-    let mut rest = x;
-    let mut i = 0;
-    while i < 8 {
-        let at = 7 - i;
-        bytes[at] = (rest % 256) as u8;
-        rest = rest / 256;
-        i += 1;
-    }
-}
-
 // The registers' 64 bytes over the front of the answer buffer; the rest stays.
 pub fn give(registers: Registers, answer: &mut [u8])
     requires { ⌜ 64 ≤ length (now answer) ⌝ }
@@ -67,7 +46,7 @@ pub fn give(registers: Registers, answer: &mut [u8])
         let start = i * 8;
         let end = start + 8;
         let x = words[i];
-        spell(x, &mut answer[start..end]);
+        numbers::store(&mut answer[start..end], 8, x);
         i += 1;
     }
 }

@@ -1,9 +1,9 @@
--- Each exported function's promise leaves one answer, and one list of bytes or numbers where it writes. Assumes nothing.
+-- Each exported function's contract leaves one answer, and one list of bytes or numbers where it writes.
 use mathlib.Core.Path.{sym, _∙_}
 use mathlib.Core.List.{List}
 use Prim.Native.Nat.{ℕ}
 use denote.Ref.{now}
-use Rattle.trace_bits.proofs.Promise.{OneAnswer, OneSight}
+use Rattle.rules.specs.OneAnswer.{OneAnswer, OneSight}
 use Rattle.exports.specs.Told.{Handed, handed}
 use Rattle.exports.proofs.leaf_copy as leaf-copy
 use Rattle.exports.proofs.leaf_zero as leaf-zero

@@ -1,4 +1,4 @@
--- A copy that is refused where the lengths differ. Assumes nothing.
+-- A copy that is refused where the lengths differ.
 use mathlib.Core.List.{List}
 use mathlib.Core.Bool.{cond}
 use Prim.Native.Nat.{ℕ}

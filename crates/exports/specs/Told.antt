@@ -1,6 +1,6 @@
 -- What stands at a place of a trace, in nine numbers, for those who have no enum: the answer; the event's kind, its three
 -- numbers, off and len; where its data starts in the unread bytes and how long it is. No record's data starts at 0: that
--- tells the end from a record. Assumes nothing.
+-- tells the end from a record.
 use mathlib.Core.List.{List, [], _∷_}
 use Prim.Native.Nat.{ℕ}
 use Rattle.rules.specs.Events.{kindOf}

@@ -1,11 +1,12 @@
-// What programs in C or Rust link: the leaves of pages and the reader, each under a plain name and with a promise for every
-// input. Slices come as a pointer and a length.
+// What programs in C or Rust link: copying, zeroing and comparing bytes, and the reader, each under a plain name and with a
+// contract for every input. Slices come as a pointer and a length.
 ghost use mathlib.Core.Path.{_≡_};
 ghost use lib.ListN.{length};
 ghost use Rattle.rules.specs.Bytes.{zeros, sameBytes};
 ghost use Rattle.exports.specs.Leaves.{copied};
 ghost use Rattle.exports.specs.Told.{told, toldOf, handed, nextRecord};
 use rules::Event;
+use trace_form::Fields;
 use trace_read::Found;
 
 // Every byte of dst from src, where src is as long; else none.
@@ -54,7 +55,7 @@ fn numbers_in(event: Event, start: usize, len: usize) -> [usize; 9]
     ensures { λ r. ⌜ r ≡ toldOf event start len ⌝ }
 {
     let kind = event.kind() as usize;
-    let v = trace_form::fields_of(event);
+    let v = Fields::of(event);
     let first = v.first as usize;
     let second = v.second as usize;
     let third = v.third as usize;

@@ -4,7 +4,7 @@ use mathlib.Core.Path.{sym, ap, _∙_}
 use mathlib.Core.List.{List, []}
 use Prim.Native.Nat.{ℕ}
 use denote.Ref.{now}
-use Rattle.trace_bits.proofs.Promise.{OneAnswer, OneSight}
+use Rattle.rules.specs.OneAnswer.{OneAnswer, OneSight}
 use Rattle.listing.specs.Listing.{Point, point}
 use Rattle.listing.specs.Filling.{Fills, Wrote, left}
 use Rattle.listing.proofs.opening as opening

@@ -11,12 +11,12 @@ use lib.Seq.{length-take-le}
 use Rattle.io.specs.Counts.{Counts}
 use borrow.Author.Tests.{lt-ltb, le-ltb, lt-leb, le-leb}
 use Rattle.rules.specs.Bytes.{allOf}
-use Rattle.rules.proofs.Facts.{each, passed}
+use Rattle.rules.proofs.Facts.{each, passed, limited}
 use Rattle.rules.specs.Sizes.{setupInRange}
 use Rattle.rules.specs.declared.Setup.{Setup}
-use Rattle.trace_form.specs.Bounds.{InRange}
+use Rattle.rules.specs.Asked.{Limited}
 use Rattle.trace_form.specs.Header.{setupIn, headerValues}
-use Rattle.trace_form.proofs.Headers.{in-range, read-in-range}
+use Rattle.trace_form.proofs.Headers.{read-in-range}
 use Rattle.trace_read.specs.Reading.{sizesOf, sizesWhole, sizesAt, headerAt}
 use Rattle.trace_read.proofs.Headers.{opened}
 use Rattle.trace_read.specs.declared.Header.{Header}
@@ -30,7 +30,7 @@ use Rattle.listing.specs.Filling.{wrote, refusalWrote}
 use Rattle.listing.specs.Opening.{limit, framesLength, storeLength, productsFit, openingOf, openingAt}
 
 -- the products of a setup within its limits can be counted
-module _ (s : Setup) (r : InRange s) where
+module _ (s : Setup) (r : Limited s) where
   pub frames-counted : framesLength s ≤ 64 * 4096
   frames-counted = mul-le-mul (r .frames) (r .size)
 
@@ -60,9 +60,9 @@ module _ (trace : List ℕ) where
     by-sizes {x} e = rw (le-ltb limit (length trace) h) (ap (openingOf trace) (sym e ∙ sizes))
 
     module _ {s : Setup} {at : ℕ} (e : r ≡ Sizes s at) where
-      pub setup-read : InRange s
+      pub setup-read : Limited s
       unfolding sizesAt headerValues
-      setup-read = in-range s (go (sizesWhole trace) (sym sizes ∙ e))
+      setup-read = limited s (go (sizesWhole trace) (sym sizes ∙ e))
         where
           go : (b : Bool) → cond b (sizesOf (setupIn (headerValues trace))) (Refused 9) ≡ Sizes s at → T (setupInRange s)
           go true q =
@@ -110,9 +110,9 @@ module _ (trace : List ℕ) (s : Setup) (at : ℕ) (e : openingAt trace ≡ Size
   fitting : T (productsFit s)
   fitting = passed (productsFit s) (rw is-read (both .0))
 
-  pub taken-in-range : InRange s
+  pub taken-in-range : Limited s
   unfolding headerValues
-  taken-in-range = in-range s (rw is-read (read-in-range _))
+  taken-in-range = limited s (rw is-read (read-in-range _))
 
   pub taken-frames : framesLength s ≤ limit
   unfolding productsFit

@@ -6,7 +6,7 @@ ghost use lib.ListN.{length};
 ghost use lib.Dec.{leb, ltb};
 ghost use Rattle.io.specs.Counts.{Counts};
 ghost use Rattle.rules.specs.Bytes.{allOf};
-ghost use Rattle.trace_form.specs.Bounds.{InRange};
+ghost use Rattle.rules.specs.Asked.{Limited};
 ghost use Rattle.trace_read.specs.Reading.{readAt};
 ghost use Rattle.listing.specs.Opening.{productsFit, openingAt};
 ghost use Rattle.listing.specs.Listing.{point, listed, listedAs, eventListed, shownLength, startPoint};
@@ -40,7 +40,7 @@ const LIMIT: usize = 16384;
 const LINE: usize = 128;
 
 fn products_fit(setup: Setup) -> bool
-    requires { ⌜ InRange setup ⌝ }
+    requires { ⌜ Limited setup ⌝ }
     ensures { λ r. ⌜ r ≡ productsFit setup ⌝ }
 {
     if LIMIT < setup.frames * setup.size {

@@ -20,7 +20,6 @@ use conditions::is_running;
 use conditions::not_stopped;
 use conditions::page_number;
 use conditions::takes_at;
-use core_refuse_event::both;
 use rules::Activity;
 use rules::Answer;
 use rules::Asid;
@@ -34,6 +33,7 @@ use rules::PageRecord;
 use rules::Setup;
 use rules::Span;
 use rules::Tables;
+use rules::both;
 
 // The order of the checks on records.
 fn fit(condition: bool, live: bool, mapped: bool) -> u8

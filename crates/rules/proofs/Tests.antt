@@ -1,8 +1,8 @@
 -- Laws of tests: what a list of tests that is passed tells of each of them, and back; the same of a test of every element of a list; and
 -- what the tests of two lists of bytes and of a number within the setup tell.
-use mathlib.Core.Path.{_≡_, refl, sym, ap₂}
+use mathlib.Core.Path.{_≡_, refl, sym, ap₂, _∙_}
 use mathlib.Core.List.{List, [], _∷_}
-use mathlib.Core.Bool.{Bool, true, false, _&&_, _||_, not, cond, true≢false}
+use mathlib.Core.Bool.{Bool, true, false, _&&_, _||_, not, cond, true≢false, and-true}
 use Prim.Native.Nat.{ℕ, zero, suc, _+_, _<_}
 use native.Mathlib.Nat.{zero-add, add-zero, suc-add, add-suc, le-of-suc-le-suc, not-suc-le-zero}
 use native.Mathlib.Omega.{arith}
@@ -42,6 +42,15 @@ second-or false b t = t
 pub implied : (a b : Bool) → T (not a || b) → T a → T b
 implied true b t u = t
 implied false b t u = absurd u
+
+-- a test in front of a list of tests, as `both` joins them; t is what the test a is known to be
+pub joined : {r t : Bool} (a b : Bool) (bs : List Bool) → r ≡ allOf (a ∷ b ∷ []) → a ≡ t → b ≡ allOf bs → r ≡ allOf (t ∷ bs)
+unfolding allOf
+joined a b bs p e q = p ∙ simp and-true (ap₂ _&&_ e q)
+
+pub alone : (b : Bool) → b ≡ allOf (b ∷ [])
+unfolding allOf
+alone b = sym (and-true b)
 
 pub passes : (b : Bool) → T b → b ≡ true
 passes true t = refl

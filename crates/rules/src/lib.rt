@@ -2,7 +2,9 @@
 // What they mean is in specs/, which condenses document 01's core.
 ghost use mathlib.Core.Path.{_≡_};
 ghost use Prim.Native.Nat.{_<_};
-ghost use mathlib.Core.Bool.{_&&_, not};
+ghost use mathlib.Core.Bool.{not};
+ghost use mathlib.Core.List.{[], _∷_};
+ghost use Rattle.rules.specs.Bytes.{allOf};
 ghost use Rattle.rules.specs.Sizes.{between, setupInRange};
 ghost use Rattle.rules.specs.Records.{freshState, isEmpty, isStopped, isFree, isRunning, isKeptIn, domainWhere};
 ghost use Rattle.rules.specs.Records.{isUnmapped, isPublic, isClearIn, frameWhere};
@@ -81,8 +83,9 @@ fn within(low: usize, high: usize, n: usize) -> bool
     both(low <= n, n <= high)
 }
 
-fn both(a: bool, b: bool) -> bool
-    ensures { λ r. ⌜ r ≡ a && b ⌝ }
+// Both of two tests hold.
+pub fn both(a: bool, b: bool) -> bool
+    ensures { λ r. ⌜ r ≡ allOf (a ∷ b ∷ []) ⌝ }
 {
     if a { b } else { false }
 }

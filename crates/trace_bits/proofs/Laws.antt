@@ -1,9 +1,11 @@
 -- The laws of `join` and `split`, once, over any list of widths: each undoes the other, what is split off fits, and what
--- is joined has no more bits than its fields. Assumes nothing.
+-- is joined has no more bits than its fields.
 use mathlib.Core.Path.{_≡_, refl, sym, ap, ap₂, _∙_, subst}
 use mathlib.Core.List.{List, [], _∷_}
-use Prim.Native.Nat.{ℕ, _+_, _*_, _/_, _%_, _^_, _≤_, _<_}
-use native.Mathlib.Nat.{add-comm, add-zero, div-one, div-eq-of-lt, div-add-mod', mod-lt, mod-eq-of-lt, mul-add-div-right, mul-add-mod-self-right, lt-of-lt-of-le}
+use Prim.Native.Nat.{ℕ, _+_, _-_, _*_, _/_, _%_, _^_, _≤_, _<_}
+use native.Mathlib.Nat.{add-comm, add-assoc, add-zero, div-one, div-eq-of-lt, div-add-mod', mod-lt, mod-eq-of-lt}
+use native.Mathlib.Nat.{mul-add-div-right, mul-add-mod-self-right, lt-of-lt-of-le}
+use native.Mathlib.Nat.{lt-of-le-of-lt, mod-eq-sub-div-mul, div-mul-le-self}
 use lib.Arith.{digits-lt}
 use lib.Pow.{pow-add, pow-pos, pow-mono, shr-shr}
 use Rattle.trace_bits.specs.Packing.{total, join, split, Fit, Longer}
@@ -52,14 +54,10 @@ pub split-fit : (ws : List ℕ) (n : ℕ) → Fit ws (split ws n)
 split-fit [] n = fit-none
 split-fit (w ∷ ws) n = fit-one (mod-lt (n / 2 ^ total ws) (pow-pos w)) (split-fit ws n)
 
--- Between two lists of widths that have the same number of bits, as a record's fields and its bytes: what was packed from
--- the one to the other comes back unchanged.
-pub round-trip : (ws us : List ℕ) {vs : List ℕ} → total ws ≡ total us → Fit ws vs
-    → split ws (join 0 us (split us (join 0 ws vs))) ≡ vs
-round-trip ws us {vs} e f =
-    ap (split ws)
-    (join-split us (join 0 ws vs) 0 (sym (join-front 0 f) ∙ ap (λ (t : ℕ). join 0 ws vs / 2 ^ t) e))
-    ∙ split-join 0 f
+pub join-below : (a n : ℕ) {ws vs : List ℕ} → n < 2 ^ a → Fit ws vs → join n ws vs < 2 ^ (a + total ws)
+join-below a n h fit-none = rw add-zero h
+join-below a n h (fit-one {w = w} {v = v} {ws = ws} hv f) =
+    rw (← add-assoc a w (total ws)) (join-below (a + w) (n * 2 ^ w + v) (wider a n w v h hv) f)
 
 -- one field more, behind a number that is known
 pub longer : {p q : Packed} (w v n : ℕ) → Longer p w v q → p .number ≡ n → q .number ≡ n * 2 ^ w + v
@@ -69,3 +67,13 @@ longer w v n l e = l .number ∙ ap (λ (x : ℕ). x * 2 ^ w + v) e
 pub mod-below : (r n w b : ℕ) → r ≡ n % 2 ^ w → w ≤ b → r < 2 ^ b
 mod-below r n w b e h =
     subst (λ (x : ℕ). x < 2 ^ b) (sym e) (lt-of-lt-of-le (mod-lt n (pow-pos w)) (pow-mono {i = w} {j = b} h))
+
+-- q without its last w bits, by a shift there and back
+shifted-back : (q w : ℕ) → q < 2 ^ 64 → q / 2 ^ w * 2 ^ w % 2 ^ 64 ≡ q / 2 ^ w * 2 ^ w
+shifted-back q w h = mod-eq-of-lt (lt-of-le-of-lt (div-mul-le-self q (2 ^ w)) h)
+
+pub shifted-back-le : (q w : ℕ) → q < 2 ^ 64 → q / 2 ^ w * 2 ^ w % 2 ^ 64 ≤ q
+shifted-back-le q w h = rw (shifted-back q w h) (div-mul-le-self q (2 ^ w))
+
+pub last-bits : (q w : ℕ) → q < 2 ^ 64 → q - q / 2 ^ w * 2 ^ w % 2 ^ 64 ≡ q % 2 ^ w
+last-bits q w h = ap (λ (x : ℕ). q - x) (shifted-back q w h) ∙ sym (mod-eq-sub-div-mul q (2 ^ w))

@@ -1,5 +1,4 @@
--- The laws of packing, once, over any widths; and what a promise is.
+-- The laws of packing, once, over any widths.
 pub mod Laws
 pub mod Bytes
-pub mod Promise
 pub mod OneAnswer

@@ -1,2 +1,2 @@
--- How fields of any width stand in whole bytes.
+-- How fields of any width stand in a number.
 pub mod Packing

@@ -1,9 +1,8 @@
--- Document 01, "The trace form": fields are packed most significant bit first. Fields one after the other spell a number,
--- whose binary digits theirs are; a byte is a field of 8 bits, so bytes spell numbers by the same definitions. Assumes nothing.
+-- Document 01, "The trace form": fields are packed most significant bit first. The binary digits of a number that fields
+-- spell are theirs, one field behind the other.
 use mathlib.Core.List.{List, [], _∷_}
 use mathlib.Core.Path.{_≡_}
-use Prim.Native.Nat.{ℕ, zero, suc, _+_, _*_, _/_, _%_, _^_, _<_}
-use lib.ListN.{getD}
+use Prim.Native.Nat.{ℕ, _+_, _*_, _/_, _%_, _^_, _<_}
 use Rattle.trace_bits.specs.declared.Packed.{Packed}
 
 -- the bits of all the fields
@@ -26,15 +25,6 @@ split (w ∷ ws) n = n / 2 ^ total ws % 2 ^ w ∷ split ws n
 pub data Fit : List ℕ → List ℕ → Type 0 where
   fit-none : Fit [] []
   fit-one : {w v : ℕ} {ws vs : List ℕ} → v < 2 ^ w → Fit ws vs → Fit (w ∷ ws) (v ∷ vs)
-
--- every number of a list is a byte's
-abbrev pub Bytes : List ℕ → Type 0
-Bytes bytes = (i : ℕ) → getD bytes i 0 < 2 ^ 8
-
--- k bytes
-abbrev pub octets : ℕ → List ℕ
-octets zero = []
-octets (suc k) = 8 ∷ octets k
 
 -- a number that is being written, field by field: it has no more bits than it says
 pub record Sized (p : Packed) : Type 0 where

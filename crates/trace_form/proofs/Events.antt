@@ -1,9 +1,8 @@
 -- Kinds and fields against events, both ways: an event is the one of its kind and its fields, and the event of a kind and
--- of fields that fit it has that kind and those fields. Assumes nothing.
-use mathlib.Core.Path.{_≡_, refl, sym, ap, subst, _∙_}
-use mathlib.Core.Logic.{⊎-elim}
+-- of fields that fit it has that kind and those fields.
+use mathlib.Core.Path.{_≡_, refl, sym, ap, _∙_}
 use Prim.Native.Nat.{ℕ, zero, suc, _+_, _-_, _^_, _≤_, _<_}
-use native.Mathlib.Nat.{eq-or-lt-of-le, le-of-suc-le-suc, not-suc-le-zero}
+use native.Mathlib.Nat.{zero-add, add-zero, suc-add, add-suc, le-of-suc-le-suc, not-suc-le-zero}
 use native.Mathlib.Omega.{arith}
 use lib.Arith.{lt-one}
 use lib.Dec.{lit<}
@@ -13,28 +12,32 @@ use Rattle.rules.specs.declared.Span.{Span}
 use Rattle.rules.specs.declared.TrapKind.{TrapKind}
 use Rattle.rules.specs.declared.TrapKind.the-variants.{Interrupt, Call}
 use Rattle.rules.specs.declared.Event.{Event}
-use Rattle.rules.specs.declared.Event.the-variants.{Begin, End, Map, Unmap, KernelRead, KernelWrite, Resume, Spawn, Leave, Cloak, Uncloak, Read, Write, Trap}
+use Rattle.rules.specs.declared.Event.the-variants.{Begin, End, Map, Unmap, KernelRead, KernelWrite, Resume, Spawn, Leave}
+use Rattle.rules.specs.declared.Event.the-variants.{Cloak, Uncloak, Read, Write, Trap}
 use Rattle.trace_form.specs.Form.{numbers, withSpan, widthsOf, trapNumber, trapOf, noSpan, fields, fieldsOf, events, eventOf}
 use Rattle.trace_form.specs.Bounds.{Within}
 use Rattle.trace_form.specs.declared.Form.{Form}
 use Rattle.trace_form.specs.declared.Widths.{Widths}
 use Rattle.trace_form.specs.declared.Fields.{Fields}
+use Rattle.trace_form.proofs.Table.{_▹_}
 
 -- the event of a kind that the code found to be n
 pub event-at : (v : Fields) (k n : ℕ) → k ≡ n → getD (events v) n (Leave (record { 0 = 0 })) ≡ eventOf k v
 unfolding eventOf
 event-at v k n e = ap (λ (x : ℕ). getD (events v) x (Leave (record { 0 = 0 }))) (sym e)
 
--- what holds of each number below n
-abbrev Upto : (ℕ → Type 0) → ℕ → Type 0
-Upto P zero = Unit {0}
-Upto P (suc n) = Upto P n × P n
+-- what holds of each of the n numbers from k on
+abbrev Each : (ℕ → Type 0) → ℕ → ℕ → Type 0
+Each P k zero = Unit {0}
+Each P k (suc n) = P k × Each P (suc k) n
 
-upto : (P : ℕ → Type 0) (n k : ℕ) → Upto P n → k < n → P k
-upto P zero k t h = absurd (not-suc-le-zero h)
-upto P (suc n) k t h =
-    ⊎-elim (λ (e : k ≡ n). subst P (sym e) (t .1)) (λ (g : k < n). upto P n k (t .0) g)
-    (eq-or-lt-of-le (le-of-suc-le-suc h))
+each-from : (P : ℕ → Type 0) (k n i : ℕ) → Each P k n → i < n → P (k + i)
+each-from P k zero i t h = absurd (not-suc-le-zero h)
+each-from P k (suc n) zero t h = rw add-zero (t .0)
+each-from P k (suc n) (suc i) t h = rw (add-suc, ← suc-add) (each-from P (suc k) n i (t .1) (le-of-suc-le-suc h))
+
+each : (P : ℕ → Type 0) (n k : ℕ) → Each P 0 n → k < n → P k
+each P n k t h = rw zero-add at (each-from P 0 n k t h)
 
 trap-back : (b : ℕ) → b < 2 → trapNumber (trapOf b) ≡ b
 trap-back zero h = refl
@@ -48,8 +51,8 @@ trap-there Call = refl
 pub kind-of-event : (v : Fields) (k : ℕ) → k < kinds → kindOf (eventOf k v) ≡ k
 unfolding eventOf
 kind-of-event v k h =
-    upto (λ (x : ℕ). kindOf (eventOf x v) ≡ x) kinds k
-    ((((((((((((((tt, refl), refl), refl), refl), refl), refl), refl), refl), refl), refl), refl), refl), refl), refl) h
+    each (λ (x : ℕ). kindOf (eventOf x v) ≡ x) kinds k
+    (refl ▹ refl ▹ refl ▹ refl ▹ refl ▹ refl ▹ refl ▹ refl ▹ refl ▹ refl ▹ refl ▹ refl ▹ refl ▹ refl ▹ tt) h
 
 -- fields that fit a row with fewer of them: a field of no bits is 0, and a span of none is the one that stands for none
 no-bits : {n : ℕ} → n < 2 ^ 0 → 0 ≡ n
@@ -85,49 +88,23 @@ module _ (v : Fields) where
 pub fields-of-event : (f : Form) (v : Fields) (k : ℕ) → k < kinds → Within (widthsOf f k) v → fieldsOf (eventOf k v) ≡ v
 unfolding eventOf widthsOf
 fields-of-event f v k h =
-    upto (λ (x : ℕ). Within (widthsOf f x) v → fieldsOf (eventOf x v) ≡ v) kinds k (
-      (
-        (
-          (
-            (
-              (
-                (
-                  (
-                    (
-                      (
-                        (
-                          (
-                            (
-                              (
-                                tt,
-                                two-numbers v,
-                              ),
-                              one-number v,
-                            ),
-                            three-numbers v,
-                          ),
-                          two-numbers v,
-                        ),
-                        span-alone v,
-                      ),
-                      span-alone v,
-                    ),
-                    two-numbers v,
-                  ),
-                  two-numbers v,
-                ),
-                one-number v,
-              ),
-              two-numbers v,
-            ),
-            two-numbers v,
-          ),
-          span-behind v,
-        ),
-        span-behind v,
-      ),
-      trap-fields v,
-    ) h
+    each (λ (x : ℕ). Within (widthsOf f x) v → fieldsOf (eventOf x v) ≡ v) kinds k
+    (two-numbers v
+    ▹ one-number v
+    ▹ three-numbers v
+    ▹ two-numbers v
+    ▹ span-alone v
+    ▹ span-alone v
+    ▹ two-numbers v
+    ▹ two-numbers v
+    ▹ one-number v
+    ▹ two-numbers v
+    ▹ two-numbers v
+    ▹ span-behind v
+    ▹ span-behind v
+    ▹ trap-fields v
+    ▹ tt)
+    h
 
 pub event-of-fields : (e : Event) → eventOf (kindOf e) (fieldsOf e) ≡ e
 unfolding eventOf

@@ -1,18 +1,20 @@
 -- Heads in every right form: their sizes; that packing a head and taking it apart undo each other, by the laws of packing;
--- and that the kind stands in the first byte. Assumes nothing.
-use mathlib.Core.Path.{_≡_, refl, sym, ap, ap₂, subst, _∙_}
+-- and that the kind stands in the first byte.
+use mathlib.Core.Path.{_≡_, sym, ap, subst, _∙_}
 use mathlib.Core.List.{List, [], _∷_}
-use Prim.Native.Nat.{ℕ, zero, suc, _+_, _-_, _*_, _/_, _%_, _^_, _≤_, _<_}
+use Prim.Native.Nat.{ℕ, zero, suc, _+_, _-_, _*_, _/_, _^_, _≤_, _<_}
 use native.Mathlib.Nat.{le-of-eq, mod-lt}
 use native.Mathlib.Omega.{arith}
 use lib.ListN.{length, take, getD}
 use lib.Pow.{pow-pos}
-use lib.Seq.{take-all}
-use Rattle.trace_bits.specs.Packing.{total, join, split, octets, Bytes, Fit}
+use lib.Seq.{take-all, length-take-le}
+use Rattle.trace_bits.specs.Packing.{total, join, split, Fit}
 use Rattle.trace_bits.specs.Packing.Fit.{fit-none, fit-one}
-use Rattle.trace_bits.proofs.Laws.{round-trip}
-use Rattle.trace_bits.proofs.Bytes.{total-octets, length-octets, split-octets, fit-octets, first-field}
-use Rattle.trace_form.specs.Form.{Right, usedBits, headFor, headOf, headWidths, widthsOf, values, fieldsIn, paddingIn, headBytes, valuesAt}
+use Rattle.trace_bits.proofs.Bytes.{unpacked, repacked, first-field}
+use Rattle.rules.specs.Bytes.{Bytes, bigEndian, number}
+use Rattle.rules.proofs.BigEndian.{length-bigEndian, bigEndian-bytes, bytes-take}
+use Rattle.trace_form.specs.Form.{Right, usedBits, headFor, headOf, headWidths, widthsOf, values, fieldsIn, paddingIn}
+use Rattle.trace_form.specs.Form.{headBytes, valuesAt}
 use Rattle.trace_form.specs.Bounds.{Small, Laid, Within}
 use Rattle.trace_form.specs.declared.Form.{Form}
 use Rattle.trace_form.specs.declared.Widths.{Widths}
@@ -56,8 +58,8 @@ values-back k v h =
     ap (λ (x : ℕ). record { first = v .first; second = v .second; third = v .third; span = record { off = v .span .off; len = x } }) e
 
 module _ (h : Head) (l : Laid h) where
-  total-head : total (headWidths h) ≡ total (octets (h .bytes))
-  total-head = omega (arith, total-octets (h .bytes), l .whole)
+  total-head : total (headWidths h) ≡ 8 * h .bytes
+  total-head = omega (arith, l .whole)
 
   -- the widths behind the kind's
   rest : List ℕ
@@ -72,15 +74,15 @@ module _ (h : Head) (l : Laid h) where
 
   pub length-head : (k : ℕ) (v : Fields) → length (headBytes h k v) ≡ h .bytes
   unfolding headBytes
-  length-head k v = length-octets (h .bytes) (join 0 (headWidths h) (values k v))
+  length-head k v = length-bigEndian (h .bytes) (join 0 (headWidths h) (values k v))
 
   -- bytes that begin with a packed head
   module _ (k : ℕ) (v : Fields) (hk : k < 2 ^ h .kind) (w : Within (h .widths) v) (s : List ℕ) where
     pub values-of-head : take (h .bytes) s ≡ headBytes h k v → valuesAt h s ≡ values k v
     unfolding headBytes valuesAt
     values-of-head e =
-        ap (λ (x : List ℕ). split (headWidths h) (join 0 (octets (h .bytes)) x)) e
-        ∙ round-trip (headWidths h) (octets (h .bytes)) total-head (fit-values k v hk w)
+        ap (λ (x : List ℕ). split (headWidths h) (number x)) e
+        ∙ unpacked (headWidths h) (h .bytes) total-head (fit-values k v hk w)
 
   kind-bits : h .kind + total rest ≡ 8 * h .bytes
   unfolding rest
@@ -91,13 +93,14 @@ module _ (h : Head) (l : Laid h) where
   unfolding valuesAt rest
   kind-at s g b = first-field (h .kind) rest (h .bytes) s (l .some) g (l .kind) kind-bits b
 
-  pub kind-in-head : (k : ℕ) (v : Fields) → k < 2 ^ h .kind → Within (h .widths) v → k ≡ getD (headBytes h k v) 0 0 / 2 ^ (8 - h .kind)
+  pub kind-in-head : (k : ℕ) (v : Fields) → k < 2 ^ h .kind → Within (h .widths) v
+      → k ≡ getD (headBytes h k v) 0 0 / 2 ^ (8 - h .kind)
   unfolding headBytes
   kind-in-head k v hk w =
       let s : List ℕ = headBytes h k v in
       let n : length s ≡ h .bytes = length-head k v in
       sym (ap (λ (x : List ℕ). getD x 0 0) (values-of-head k v hk w s (take-all (h .bytes) s (le-of-eq n))))
-      ∙ kind-at s (le-of-eq (sym n)) (split-octets (h .bytes) (join 0 (headWidths h) (values k v)))
+      ∙ kind-at s (le-of-eq (sym n)) (bigEndian-bytes (h .bytes) (join 0 (headWidths h) (values k v)))
 
   -- what is read fits
   pub read-within : (s : List ℕ) → Within (h .widths) (fieldsIn (valuesAt h s))
@@ -116,16 +119,19 @@ module _ (h : Head) (l : Laid h) where
       less w x g = omega arith
 
   -- packing what was read, where it has zero bits for padding, gives the bytes
-  read-values : (s : List ℕ) (k : ℕ) → k ≡ getD (valuesAt h s) 0 0 → paddingIn (valuesAt h s) ≡ 0 → values k (fieldsIn (valuesAt h s)) ≡ valuesAt h s
+  read-values : (s : List ℕ) (k : ℕ) → k ≡ getD (valuesAt h s) 0 0 → paddingIn (valuesAt h s) ≡ 0
+      → values k (fieldsIn (valuesAt h s)) ≡ valuesAt h s
   unfolding valuesAt
   read-values s k ek ep =
       let vs : List ℕ = valuesAt h s in
       let el : getD vs 5 0 + 1 - 1 ≡ getD vs 5 0 = omega arith in
       λ i. ek i ∷ getD vs 1 0 ∷ getD vs 2 0 ∷ getD vs 3 0 ∷ getD vs 4 0 ∷ el i ∷ sym ep i ∷ []
 
-  pub head-of-values : (s : List ℕ) (k : ℕ) → h .bytes ≤ length s → Bytes s → k ≡ getD s 0 0 / 2 ^ (8 - h .kind) → paddingIn (valuesAt h s) ≡ 0
+  pub head-of-values : (s : List ℕ) (k : ℕ) → h .bytes ≤ length s → Bytes s → k ≡ getD s 0 0 / 2 ^ (8 - h .kind)
+      → paddingIn (valuesAt h s) ≡ 0
       → headBytes h k (fieldsIn (valuesAt h s)) ≡ take (h .bytes) s
   unfolding headBytes valuesAt
   head-of-values s k g b ek ep =
-      ap (λ (x : List ℕ). split (octets (h .bytes)) (join 0 (headWidths h) x)) (read-values s k (ek ∙ sym (kind-at s g b)) ep)
-      ∙ round-trip (octets (h .bytes)) (headWidths h) (sym total-head) (fit-octets (h .bytes) s g b)
+      ap (λ (x : List ℕ). bigEndian (h .bytes) (join 0 (headWidths h) x)) (read-values s k (ek ∙ sym (kind-at s g b)) ep)
+      ∙ repacked (headWidths h) (h .bytes) total-head (take (h .bytes) s) (length-take-le (h .bytes) s g)
+      (bytes-take (h .bytes) s b)

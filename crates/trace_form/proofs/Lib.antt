@@ -3,5 +3,4 @@ pub mod Table
 pub mod Events
 pub mod Heads
 pub mod Headers
-pub mod Checks
 pub mod OneAnswer

@@ -1,27 +1,23 @@
--- Each public function's promise leaves one answer: each is an equation for its result. Assumes nothing.
+-- Each public function's contract leaves one answer: it is an equation for the result.
 use mathlib.Core.Path.{sym, _∙_}
-use Rattle.trace_bits.proofs.Promise.{OneAnswer}
-use Rattle.trace_form.proofs.widths_of as widths-of
-use Rattle.trace_form.proofs.head_of as head-of
-use Rattle.trace_form.proofs.data_length as data-length
-use Rattle.trace_form.proofs.fields_of as fields-of
+use Rattle.rules.specs.OneAnswer.{OneAnswer}
+use Rattle.trace_form.proofs.Form.widths as widths
+use Rattle.trace_form.proofs.Form.head as head
+use Rattle.trace_form.proofs.Fields.of as fields
 use Rattle.trace_form.proofs.kernel_event as kernel-event
 use Rattle.trace_form.proofs.application_event as application-event
-use Rattle.trace_form.proofs.padding_in as padding-in
-use Rattle.trace_form.proofs.fields_in as fields-in
-use Rattle.trace_form.proofs.packed as packed
+use Rattle.trace_form.proofs.Head.padding_in as padding-in
+use Rattle.trace_form.proofs.Head.fields_in as fields-in
+use Rattle.trace_form.proofs.Head.packed as packed
 
-pub widths-of-one : OneAnswer 0 widths-of.Kinds.ps widths-of.Kinds.r widths-of.Reads.Learnt
-widths-of-one κs a x y e f p q = p ∙ sym q
+pub widths-one : OneAnswer 0 widths.Kinds.ps widths.Kinds.r widths.Reads.Learnt
+widths-one κs a x y e f p q = p ∙ sym q
 
-pub head-of-one : OneAnswer 0 head-of.Kinds.ps head-of.Kinds.r head-of.Reads.Learnt
-head-of-one κs a x y e f p q = p ∙ sym q
+pub head-one : OneAnswer 0 head.Kinds.ps head.Kinds.r head.Reads.Learnt
+head-one κs a x y e f p q = p ∙ sym q
 
-pub data-length-one : OneAnswer 0 data-length.Kinds.ps data-length.Kinds.r data-length.Reads.Learnt
-data-length-one κs a x y e f p q = p ∙ sym q
-
-pub fields-of-one : OneAnswer 0 fields-of.Kinds.ps fields-of.Kinds.r fields-of.Reads.Learnt
-fields-of-one κs a x y e f p q = p ∙ sym q
+pub fields-one : OneAnswer 0 fields.Kinds.ps fields.Kinds.r fields.Reads.Learnt
+fields-one κs a x y e f p q = p ∙ sym q
 
 pub kernel-event-one : OneAnswer 0 kernel-event.Kinds.ps kernel-event.Kinds.r kernel-event.Reads.Learnt
 kernel-event-one κs a x y e f p q = p ∙ sym q

@@ -1,7 +1,7 @@
--- The table of widths: which row a kind has, and what every row keeps to, in every right form. Assumes nothing.
+-- The table of widths: which row a kind has, and what every row keeps to, in every right form.
 use mathlib.Core.Path.{_≡_, sym, ap}
 use mathlib.Core.List.{List, [], _∷_}
-use Prim.Native.Nat.{ℕ, zero, suc, _+_, _≤_, _<_, zero-le}
+use Prim.Native.Nat.{ℕ, zero, suc, _≤_, zero-le}
 use native.Mathlib.Omega.{arith}
 use lib.Arith.{lt-of-le-ne}
 use lib.ListN.{getD, List·getD-eq-default}
@@ -27,6 +27,11 @@ past (suc n) k t = lt-of-le-ne (past n k (t .0)) (λ e. t .1 (sym e))
 pub row-past : (f : Form) (k : ℕ) → None 14 k → numbers 0 0 0 ≡ widthsOf f k
 unfolding widthsOf
 row-past f k t = sym (List·getD-eq-default (table (f .context)) (numbers 0 0 0) {n = k} (past 14 k t))
+
+-- a row of facts, one for each kind
+infixr 30 _▹_
+abbrev pub _▹_ : {A B : Type 0} → A → B → A × B
+a ▹ b = (a, b)
 
 -- what every row keeps to
 plain : (a b c : ℕ) → a ≤ 8 → b ≤ 8 → c ≤ 8 → Small (numbers a b c)
@@ -57,43 +62,19 @@ small f k r = every-at (table c) k rows
     h = r .context-bits
 
     rows : Every (table c)
-    rows = (
-      plain 3 c 0 (omega arith) h (omega arith),
-      (
-        plain 3 0 0 (omega arith) (omega arith) (omega arith),
-        (
-          plain 3 5 6 (omega arith) (omega arith) (omega arith),
-          (
-            plain 3 5 0 (omega arith) (omega arith) (omega arith),
-            (
-              spanning 6 0 (omega arith) (omega arith),
-              (
-                spanning 6 0 (omega arith) (omega arith),
-                (
-                  plain 3 c 0 (omega arith) h (omega arith),
-                  (
-                    plain c c 0 h h (omega arith),
-                    (
-                      plain c 0 0 h (omega arith) (omega arith),
-                      (
-                        plain c 5 0 h (omega arith) (omega arith),
-                        (
-                          plain c 5 0 h (omega arith) (omega arith),
-                          (
-                            spanning c 5 h (omega arith),
-                            (
-                              spanning c 5 h (omega arith),
-                              (plain c 1 8 h (omega arith) (omega arith), tt),
-                            ),
-                          ),
-                        ),
-                      ),
-                    ),
-                  ),
-                ),
-              ),
-            ),
-          ),
-        ),
-      ),
-    )
+    rows =
+        plain 3 c 0 (omega arith) h (omega arith)
+        ▹ plain 3 0 0 (omega arith) (omega arith) (omega arith)
+        ▹ plain 3 5 6 (omega arith) (omega arith) (omega arith)
+        ▹ plain 3 5 0 (omega arith) (omega arith) (omega arith)
+        ▹ spanning 6 0 (omega arith) (omega arith)
+        ▹ spanning 6 0 (omega arith) (omega arith)
+        ▹ plain 3 c 0 (omega arith) h (omega arith)
+        ▹ plain c c 0 h h (omega arith)
+        ▹ plain c 0 0 h (omega arith) (omega arith)
+        ▹ plain c 5 0 h (omega arith) (omega arith)
+        ▹ plain c 5 0 h (omega arith) (omega arith)
+        ▹ spanning c 5 h (omega arith)
+        ▹ spanning c 5 h (omega arith)
+        ▹ plain c 1 8 h (omega arith) (omega arith)
+        ▹ tt

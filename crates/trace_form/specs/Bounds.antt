@@ -1,8 +1,7 @@
 -- The bounds that packing and taking apart rest on. Every head of a right form keeps to them, and so do the fields of every
--- event that can be written (proofs/Heads.antt) and every setup within its limits (proofs/Headers.antt). Assumes nothing.
+-- event that can be written (proofs/Heads.antt).
 use mathlib.Core.Path.{_≡_}
-use Prim.Native.Nat.{ℕ, _+_, _-_, _*_, _%_, _^_, _≤_, _<_}
-use Rattle.rules.specs.declared.Setup.{Setup}
+use Prim.Native.Nat.{_+_, _-_, _*_, _^_, _≤_, _<_}
 use Rattle.trace_form.specs.Form.{usedBits}
 use Rattle.trace_form.specs.declared.Widths.{Widths}
 use Rattle.trace_form.specs.declared.Head.{Head}
@@ -33,18 +32,3 @@ pub record Within (w : Widths) (v : Fields) : Type 0 where
   pub four : v .span .off < 2 ^ w .off
   pub five : v .span .len - 1 < 2 ^ w .len
   pub some : 1 ≤ v .span .len
-
--- a setup within its limits
-pub record InRange (s : Setup) : Type 0 where
-  pub least : 16 ≤ s .size
-  pub size : s .size ≤ 4096
-  pub unit : s .size % 16 ≡ 0
-  pub some-domains : 1 ≤ s .domains
-  pub domains : s .domains ≤ 8
-  pub some-pages : 1 ≤ s .pages
-  pub pages : s .pages ≤ 32
-  pub some-contexts : 1 ≤ s .contexts
-  pub contexts : s .contexts ≤ 16
-  pub some-frames : 1 ≤ s .frames
-  pub frames : s .frames ≤ 64
-  pub signatures : s .signatures ≤ 65535

@@ -1,23 +1,31 @@
 -- Document 01, "The trace form": the widths of each kind's fields, how many bytes they take with the kind before them, and
--- which event has which values. The form is a parameter with one value today, `first`. Assumes nothing.
+-- which event has which values. The form is a parameter with one value today, `first`.
 use mathlib.Core.List.{List, [], _∷_}
 use Prim.Native.Nat.{ℕ, zero, suc, _+_, _-_, _*_, _/_, _^_, _≤_}
 use lib.ListN.{getD, take}
-use Rattle.trace_bits.specs.Packing.{join, split, octets}
+use Rattle.trace_bits.specs.Packing.{join, split}
+use Rattle.rules.specs.Bytes.{bigEndian, number}
 use Rattle.rules.specs.Events.{kinds}
 use Rattle.rules.specs.declared.Span.{Span}
 use Rattle.rules.specs.declared.TrapKind.{TrapKind}
 use Rattle.rules.specs.declared.TrapKind.the-variants.{Interrupt, Call}
 use Rattle.rules.specs.declared.Event.{Event}
-use Rattle.rules.specs.declared.Event.the-variants.{Begin, End, Map, Unmap, KernelRead, KernelWrite, Resume, Spawn, Leave, Cloak, Uncloak, Read, Write, Trap}
+use Rattle.rules.specs.declared.Event.the-variants.{Begin, End, Map, Unmap, KernelRead, KernelWrite, Resume, Spawn, Leave}
+use Rattle.rules.specs.declared.Event.the-variants.{Cloak, Uncloak, Read, Write, Trap}
 use Rattle.trace_form.specs.declared.Form.{Form}
 use Rattle.trace_form.specs.declared.Widths.{Widths}
 use Rattle.trace_form.specs.declared.Head.{Head}
 use Rattle.trace_form.specs.declared.Fields.{Fields}
 
 -- document 01's form: a kind of 4 bits, a context of 4, and fourteen kinds
+abbrev pub kindBits : ℕ
+kindBits = 4
+
+abbrev pub contextBits : ℕ
+contextBits = 4
+
 abbrev pub first : Form
-first = record { kind = 4; context = 4; kinds = kinds }
+first = record { kind = kindBits; context = contextBits; kinds = kinds }
 
 -- what every form keeps to: the kind stands in the first byte, which has room for each; and every event has a kind
 pub record Right (f : Form) : Type 0 where
@@ -118,10 +126,10 @@ paddingIn vs = getD vs 6 0
 
 -- a head's bytes, and the values that bytes begin with
 unfoldable pub headBytes : Head → ℕ → Fields → List ℕ
-headBytes h k v = split (octets (h .bytes)) (join 0 (headWidths h) (values k v))
+headBytes h k v = bigEndian (h .bytes) (join 0 (headWidths h) (values k v))
 
 unfoldable pub valuesAt : Head → List ℕ → List ℕ
-valuesAt h bytes = split (headWidths h) (join 0 (octets (h .bytes)) (take (h .bytes) bytes))
+valuesAt h bytes = split (headWidths h) (number (take (h .bytes) bytes))
 
 -- trap kind 0 is an interrupt, 1 a call
 abbrev pub trapNumber : TrapKind → ℕ

@@ -1,14 +1,26 @@
--- Document 01, "The trace form": the header's 48 bits, which give the setup, and the signatures behind them. Assumes nothing.
+-- Document 01, "The trace form": the header's 48 bits, which give the setup, and the signatures behind them.
 use mathlib.Core.List.{List, [], _∷_, _++_}
 use Prim.Native.Nat.{ℕ, _+_, _-_, _*_, _/_}
 use lib.ListN.{getD, take}
-use Rattle.trace_bits.specs.Packing.{join, split, octets}
+use Rattle.trace_bits.specs.Packing.{join, split}
+use Rattle.rules.specs.Bytes.{bigEndian, number}
 use Rattle.rules.specs.Sizes.{sizeUnit}
 use Rattle.rules.specs.declared.Setup.{Setup}
+use Rattle.trace_form.specs.Form.{domainBits, pageBits, contextBits, frameBits}
+
+abbrev pub sizeBits : ℕ
+sizeBits = 8
+
+abbrev pub signatureBits : ℕ
+signatureBits = 16
+
+abbrev pub spareBits : ℕ
+spareBits = 6
 
 -- P/16-1, D-1, V-1, T-1, F-1, N, and six zero bits; six bytes in all
 abbrev pub headerWidths : List ℕ
-headerWidths = 8 ∷ 3 ∷ 5 ∷ 4 ∷ 6 ∷ 16 ∷ 6 ∷ []
+headerWidths =
+    sizeBits ∷ domainBits ∷ pageBits ∷ contextBits ∷ frameBits ∷ signatureBits ∷ spareBits ∷ []
 
 abbrev pub headerLength : ℕ
 headerLength = 6
@@ -45,10 +57,10 @@ supplyLength s = s .signatures * s .size
 
 -- the header's bytes with the signatures behind them, and the values that a trace begins with
 unfoldable pub headerBytes : Setup → List ℕ
-headerBytes s = split (octets headerLength) (join 0 headerWidths (setupValues s))
+headerBytes s = bigEndian headerLength (join 0 headerWidths (setupValues s))
 
 unfoldable pub headerOf : Setup → List ℕ → List ℕ
 headerOf s supply = headerBytes s ++ supply
 
 unfoldable pub headerValues : List ℕ → List ℕ
-headerValues trace = split headerWidths (join 0 (octets headerLength) (take headerLength trace))
+headerValues trace = split headerWidths (number (take headerLength trace))

@@ -1,32 +1,29 @@
 -- Document 01's example trace, by computation: reading it gives its five records, and writing them gives its bytes; and what
--- the reader and the writer refuse, one case for each reason. Assumes nothing.
+-- the reader and the writer refuse, one case for each reason.
 use mathlib.Core.Path.{_≡_, refl}
 use mathlib.Core.List.{List, [], _∷_, _++_, map}
 use Prim.Native.Nat.{ℕ}
 use lib.ListN.{replicate, take}
-use Rattle.rules.specs.Bytes.{overlay, allOf}
-use Rattle.rules.specs.Sizes.{between, setupInRange, supplyRight}
-use Rattle.rules.specs.Answers.{check, firstOf}
 use Rattle.rules.specs.Example.{S0, S1, small}
 use Rattle.rules.specs.declared.Setup.{Setup}
 use Rattle.rules.specs.declared.Event.{Event}
 use Rattle.rules.specs.declared.Event.the-variants.{Begin, KernelRead, Trap}
 use Rattle.rules.specs.declared.TrapKind.the-variants.{Interrupt}
-use Rattle.trace_form.specs.Form.{first, widthsOf, headOf, headBytes, valuesAt, eventOf}
-use Rattle.trace_form.specs.Header.{headerBytes, headerOf, headerValues}
-use Rattle.trace_read.specs.Reading.{numberOf, headerNumber, sizesWhole, sizesAt, headerAt, kindIn, hasEvent, eventAt, dataAt, headWhole, recordOf, readAt}
-use Rattle.trace_write.specs.Writing.{done, written, headerRefusal, writeHeader, recordBytes, numbersFit, spanFits, refusalOf, recordRefusal, writeRecord}
-use Rattle.trace_laws.specs.Traces.{readRecords, readTrace, writeRecords, writeTrace}
+use Rattle.trace_form.specs.Form.{first}
+use Rattle.trace_read.specs.Reading.{numberOf, headerNumber, headerAt, readAt}
+use Rattle.trace_write.specs.Writing.{done, written, writeHeader, writeRecord}
+use Rattle.trace_laws.specs.Traces.{readTrace, writeTrace}
 use Rattle.trace_laws.specs.Traces.Reading.{ended}
+use Rattle.trace_laws.proofs.Computing.{trace-computing}
 use Rattle.trace_laws.specs.Example.{exampleTrace, exampleContent}
 
 pub example-reads : readTrace exampleTrace ≡ ended exampleContent
-unfolding readTrace readRecords headerAt sizesAt sizesWhole headerValues readAt kindIn hasEvent recordOf headWhole eventAt dataAt headOf widthsOf valuesAt eventOf allOf
+unfolding trace-computing
 example-reads = refl
 
 -- to an output of 64 bytes
 pub example-writes : writeTrace exampleContent (replicate 64 255) ≡ done exampleTrace (replicate 64 255)
-unfolding writeTrace writeRecords writeHeader headerRefusal headerOf headerBytes writeRecord recordRefusal refusalOf numbersFit spanFits recordBytes written headOf widthsOf headBytes setupInRange supplyRight between firstOf check allOf overlay
+unfolding trace-computing
 example-writes = refl
 
 -- The reader: kinds 14 and 15, before any 9; a record cut short, a padding bit set, data cut short; a place that the unread
@@ -42,7 +39,7 @@ pub reader-refuses : map numberOf
     ∷ readAt first [] 18446744073709551615
     ∷ [])
     ≡ 1 ∷ 1 ∷ 9 ∷ 9 ∷ 9 ∷ 10 ∷ 10 ∷ 0 ∷ []
-unfolding readAt kindIn hasEvent recordOf headWhole eventAt dataAt headOf widthsOf valuesAt eventOf allOf
+unfolding trace-computing
 reader-refuses = refl
 
 -- A header cut short, with a spare bit set, and with a signature's last byte missing.
@@ -53,7 +50,7 @@ pub header-refuses : map headerNumber
     ∷ headerAt (take 38 exampleTrace)
     ∷ [])
     ≡ 9 ∷ 9 ∷ 9 ∷ 0 ∷ []
-unfolding headerAt sizesAt sizesWhole headerValues allOf
+unfolding trace-computing
 header-refuses = refl
 
 -- The writer: a domain and a frame beyond their fields; len 0 and 4,097, off 4,096, data of a wrong length; an output too
@@ -76,7 +73,7 @@ pub writer-refuses :
     ∷ writes (Trap (record { 0 = 15 }) Interrupt 255) (replicate 64 0) 67
     ∷ []
     ≡ 2 ∷ 2 ∷ 3 ∷ 3 ∷ 3 ∷ 3 ∷ 11 ∷ 0 ∷ 0 ∷ []
-unfolding writeRecord recordRefusal refusalOf numbersFit spanFits written headOf widthsOf recordBytes headBytes firstOf check allOf
+unfolding trace-computing
 writer-refuses = refl
 
 -- A header's writer: a page size that is no multiple of 16, a signature's last byte missing, an output too short by one.
@@ -90,5 +87,5 @@ pub header-writer-refuses :
     ∷ heads small (S0 ++ S1) 38
     ∷ []
     ≡ 10 ∷ 10 ∷ 11 ∷ 0 ∷ []
-unfolding writeHeader headerRefusal headerOf headerBytes written setupInRange supplyRight between firstOf check allOf
+unfolding trace-computing
 header-writer-refuses = refl

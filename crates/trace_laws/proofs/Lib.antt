@@ -3,4 +3,5 @@ pub mod Records
 pub mod Lists
 pub mod Wholes
 pub mod RoundTrip
+pub mod Computing
 pub mod Example

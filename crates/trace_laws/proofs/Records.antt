@@ -1,17 +1,16 @@
--- One record: what is known of one that was read, and both round trips, in every right form. Assumes nothing.
-use mathlib.Core.Path.{_≡_, refl, sym, ap, ap₂, subst, subst₂, _∙_}
+-- One record: what is known of one that was read, and both round trips, in every right form.
+use mathlib.Core.Path.{_≡_, refl, sym, ap, ap₂, subst₂, _∙_}
 use mathlib.Core.Bool.{Bool, true, false, cond}
 use mathlib.Core.List.{List, [], _∷_, _++_, append-assoc}
-use Prim.Native.Nat.{ℕ, zero, suc, _+_, _-_, _*_, _/_, _%_, _^_, _≤_, _<_}
-use native.Mathlib.Nat.{lt-of-lt-of-le, le-trans}
+use Prim.Native.Nat.{ℕ, _+_, _-_, _/_, _^_, _≤_, _<_}
+use native.Mathlib.Nat.{lt-of-lt-of-le}
 use native.Mathlib.Omega.{arith}
-use lib.Dec.{T, leb, ltb, eqb}
+use lib.Dec.{leb, ltb, eqb}
 use lib.ListN.{getD, length, take, drop, length-append, length-take, length-drop, List·getD-append}
 use lib.Pow.{pow-mono}
 use lib.Seq.{take-at, drop-at, take-add}
-use borrow.Author.Tests.{leb-true, leb-false, ltb-true, eqb-true, eqb-false, lt-ltb, le-ltb, le-leb, eq-eqb}
-use Rattle.trace_bits.specs.Packing.{Bytes}
-use Rattle.rules.specs.Bytes.{allOf}
+use borrow.Author.Tests.{leb-true, leb-false, lt-ltb, le-ltb, le-leb, eq-eqb}
+use Rattle.rules.specs.Bytes.{Bytes, allOf}
 use Rattle.rules.specs.Events.{kinds, kindOf, dataLength}
 use Rattle.rules.specs.Answers.{check, firstOf}
 use Rattle.rules.proofs.Facts.{each, passed}
@@ -29,7 +28,7 @@ use Rattle.trace_read.specs.declared.Found.{Found}
 use Rattle.trace_read.specs.declared.Found.the-variants.{End, Refused, Record}
 use Rattle.trace_read.proofs.Places.{data-whole, head-read, read-record}
 use Rattle.trace_write.specs.Writing.{recordBytes, numbersFit, spanFits, maxLen, maxOff, refusalOf, recordRefusal}
-use Rattle.trace_write.proofs.Refusals.{RecordReady, record-ready}
+use Rattle.trace_write.proofs.Refusals.{record-ready}
 use Rattle.trace_write.proofs.Outputs.{length-record, kind-fits, fields-fit}
 
 -- what is known of a record that was read; k is its kind

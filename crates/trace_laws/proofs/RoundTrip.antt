@@ -1,11 +1,11 @@
 -- Document 01: each trace has one encoding, and what was read comes back unchanged. The theorems are about whole traces, a
 -- header, its signatures and records to the end, as specs/Traces.antt reads and writes them by the very steps that the
--- contracts of the crates `reading` and `writing` cite. Assumes nothing.
+-- contracts of the crates trace_read and trace_write cite.
 use mathlib.Core.Path.{_≡_, sym, _∙_}
 use mathlib.Core.List.{List}
 use Prim.Native.Nat.{ℕ, _^_, _≤_, _<_}
 use lib.ListN.{length, take}
-use Rattle.trace_bits.specs.Packing.{Bytes}
+use Rattle.rules.specs.Bytes.{Bytes}
 use Rattle.trace_write.specs.Writing.{done}
 use Rattle.trace_laws.specs.Traces.{Content, readTrace, Ends, writeTrace}
 use Rattle.trace_laws.specs.Traces.Reading.{ended}

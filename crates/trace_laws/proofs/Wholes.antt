@@ -1,37 +1,38 @@
--- Whole traces in document 01's form: the header and its signatures in front of the records. Assumes nothing.
+-- Whole traces in document 01's form: the header and its signatures in front of the records.
 use mathlib.Core.Path.{_≡_, refl, sym, ap, ap₂, subst, _∙_}
-use mathlib.Core.Logic.{_⊎_, inl, inr}
+use mathlib.Core.Logic.{inl, inr}
 use mathlib.Core.Bool.{Bool, true, false, cond}
-use mathlib.Core.List.{List, [], _∷_, _++_, append-assoc}
+use mathlib.Core.List.{List, _++_, append-assoc}
 use Prim.Native.Nat.{ℕ, _+_, _-_, _^_, _≤_, _<_}
 use native.Mathlib.Nat.{lt-of-le-of-lt}
 use native.Mathlib.Omega.{arith}
 use lib.Dec.{T, eqb, leb, lit≤}
 use lib.ListN.{length, take, drop, take-append-drop, length-append, length-take, length-drop}
 use lib.Seq.{take-at, drop-at, take-add}
-use borrow.Author.Tests.{eqb-true, eqb-false, ne-eqb, eq-eqb, lt-ltb, le-ltb}
-use Rattle.trace_bits.specs.Packing.{join, split, octets, Bytes}
-use Rattle.rules.specs.Bytes.{overlay, allOf}
+use borrow.Author.Tests.{eqb-true, eqb-false, ne-eqb, eq-eqb, le-ltb}
+use Rattle.rules.specs.Bytes.{Bytes, number, overlay, allOf}
+use Rattle.rules.specs.Asked.{Limited}
+use Rattle.rules.proofs.BigEndian.{bytes-drop}
 use Rattle.rules.specs.Sizes.{setupInRange, supplyRight}
 use Rattle.rules.specs.Records.{Given, given}
 use Rattle.rules.specs.Answers.{check, firstOf}
-use Rattle.rules.proofs.Facts.{passes}
+use Rattle.rules.proofs.Facts.{passes, limited}
 use Rattle.rules.specs.declared.Setup.{Setup}
 use Rattle.trace_form.specs.Form.{Right, first}
-use Rattle.trace_form.specs.Bounds.{InRange}
-use Rattle.trace_form.specs.Header.{headerWidths, headerLength, setupIn, setupValues, spareIn, supplyLength, headerBytes, headerOf, headerValues}
-use Rattle.trace_form.proofs.Headers.{in-range, length-header, setup-back, values-of-header, read-in-range, header-of-values}
-use Rattle.trace_read.specs.Reading.{recordsFrom, sizesOf, sizesWhole, sizesAt, signed, headerAt, supplyIn, recordsIn}
+use Rattle.trace_form.specs.Header.{headerLength, setupIn, setupValues, spareIn, supplyLength, headerBytes, headerOf, headerValues}
+use Rattle.trace_form.proofs.Headers.{length-header, setup-back, values-of-header, read-in-range, header-of-values}
+use Rattle.trace_read.specs.Reading.{recordsFrom, sizesOf, sizesWhole, sizesAt, signed, headerAt}
 use Rattle.trace_read.specs.declared.Header.{Header}
 use Rattle.trace_read.specs.declared.Header.the-variants.{Sizes, Refused}
 use Rattle.trace_read.proofs.Headers.{Opened, opened, sizes-read, header-whole}
 use Rattle.trace_write.specs.Writing.{Written, done, written, headerRefusal, writeHeader}
-use Rattle.trace_write.proofs.Refusals.{HeaderReady, header-ready}
+use Rattle.trace_write.proofs.Refusals.{header-ready}
 use Rattle.trace_write.proofs.Outputs.{overlay-front, length-headerOf}
-use Rattle.trace_laws.specs.Traces.{Item, Content, content, Reading, Records, Ends, with, readRecords, readFrom, readTrace, writeRecords, writeTrace}
-use Rattle.trace_laws.specs.Traces.Reading.{ended, stopped}
+use Rattle.trace_laws.specs.Traces.{Item, Content, content, Records, Ends, with, readRecords, readFrom, readTrace}
+use Rattle.trace_laws.specs.Traces.{writeRecords, writeTrace}
+use Rattle.trace_laws.specs.Traces.Reading.{ended}
 use Rattle.trace_laws.specs.Traces.Records.{all, refused}
-use Rattle.trace_laws.proofs.Lists.{bytes-drop, itemsBytes, AllFit, Ended, records-end, Held, records-held, all-back, front, write-all, stays, all-fit}
+use Rattle.trace_laws.proofs.Lists.{itemsBytes, AllFit, Ended, records-end, records-held, all-back, front, write-all, stays, all-fit}
 
 pub first-right : Right first
 first-right = record { kind-bits = lit≤ tt; context-bits = lit≤ tt; room = lit≤ tt; every = lit≤ tt }
@@ -96,7 +97,7 @@ pub record Kept (t : List ℕ) (c : Content) : Type 0 where
 module _ (t : List ℕ) (b : Bytes t) where
   read-sizes : (s : Setup) → s ≡ setupIn (headerValues t) → T (setupInRange s)
   unfolding headerValues
-  read-sizes s e = subst (λ (x : Setup). T (setupInRange x)) (sym e) (read-in-range (join 0 (octets headerLength) (take headerLength t)))
+  read-sizes s e = subst (λ (x : Setup). T (setupInRange x)) (sym e) (read-in-range (number (take headerLength t)))
 
   header-kept : (s : Setup) (at : ℕ) → Opened t s at → headerOf s (take (supplyLength s) (drop headerLength t)) ≡ take at t
   unfolding headerOf
@@ -202,8 +203,8 @@ module _ (c : Content) (w : Writable c) where
   abbrev bytes : List ℕ
   bytes = traceBytes c
 
-  range : InRange setup
-  range = in-range setup (w .sizes)
+  range : Limited setup
+  range = limited setup (w .sizes)
 
   parted : bytes ≡ headerBytes setup ++ (signatures ++ itemsBytes first (c .items))
   unfolding traceBytes headerOf
@@ -221,7 +222,7 @@ module _ (c : Content) (w : Writable c) where
   sizes-back : sizesOf setup ≡ sizesAt bytes
   unfolding headerValues
   sizes-back =
-      sizes-read bytes (join 0 (octets headerLength) (take headerLength bytes)) (omega (arith, length-trace c)) refl
+      sizes-read bytes (number (take headerLength bytes)) (omega (arith, length-trace c)) refl
       (spareIn (headerValues bytes)) setup refl (ap spareIn values-same)
       (sym (ap setupIn values-same ∙ setup-back setup range))
 

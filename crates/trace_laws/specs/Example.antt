@@ -1,5 +1,5 @@
 -- Document 01's example trace, byte for byte, and what it holds: the setup and signatures of the rules' example, and its five
--- events, which are those of the rules' run B. Assumes nothing.
+-- events, which are those of the rules' run B.
 use mathlib.Core.List.{List, [], _∷_, _++_, map}
 use Prim.Native.Nat.{ℕ}
 use lib.ListN.{replicate}

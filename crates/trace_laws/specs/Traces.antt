@@ -1,5 +1,5 @@
 -- Whole traces: a header, its signatures, and records to the end, read and written by the steps that the reader's and the
--- writer's contracts cite. Document 01, "The trace form". Assumes nothing.
+-- writer's contracts cite. Document 01, "The trace form".
 use mathlib.Core.List.{List, [], _∷_, _++_}
 use mathlib.Core.Bool.{cond}
 use mathlib.Core.Logic.{_⊎_}

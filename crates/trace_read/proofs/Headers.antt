@@ -1,19 +1,19 @@
 -- Which case of `sizesAt` and `headerAt` holds, by the tests that the code made; and what is known of a header that was read.
--- Assumes nothing.
 use mathlib.Core.Path.{_≡_, refl, sym, ap, subst, _∙_}
 use mathlib.Core.Bool.{Bool, true, false, cond}
 use mathlib.Core.List.{List, [], _∷_}
-use Prim.Native.Nat.{ℕ, _+_, _-_, _*_, _≤_, _<_}
+use Prim.Native.Nat.{ℕ, _-_, _*_, _≤_, _<_}
 use native.Mathlib.Omega.{arith}
 use lib.ListN.{length, take, drop}
 use lib.Dec.{T, leb, eqb}
 use borrow.Author.Tests.{lt-leb, le-leb, eq-eqb, ne-eqb, leb-true, eqb-true}
-use Rattle.trace_bits.specs.Packing.{join, split, octets}
-use Rattle.rules.specs.Bytes.{allOf}
-use Rattle.rules.specs.Sizes.{setupInRange}
+use Rattle.trace_bits.specs.Packing.{split}
+use Rattle.rules.specs.Bytes.{number, allOf}
+use Rattle.rules.specs.Sizes.{setupInRange, maxSize, maxSignatures}
 use Rattle.rules.specs.declared.Setup.{Setup}
 use Rattle.trace_form.specs.Header.{headerWidths, headerLength, setupIn, spareIn, supplyLength, headerValues}
-use Rattle.trace_form.proofs.Headers.{in-range, supply-counts, read-in-range}
+use Rattle.trace_form.proofs.Headers.{supply-counts, read-in-range}
+use Rattle.rules.proofs.Facts.{limited}
 use Rattle.trace_read.specs.Reading.{sizesWhole, recordsFrom, sizesOf, sizesAt, signed, headerAt, supplyIn, recordsIn}
 use Rattle.trace_read.specs.declared.Header.{Header}
 use Rattle.trace_read.specs.declared.Header.the-variants.{Sizes, Refused}
@@ -24,7 +24,7 @@ module _ (trace : List ℕ) where
   sizes-cut h = simp (lt-leb headerLength (length trace) h)
 
   -- n is the number that the header's bytes spell
-  module _ (n : ℕ) (h : headerLength ≤ length trace) (en : n ≡ join 0 (octets headerLength) (take headerLength trace)) where
+  module _ (n : ℕ) (h : headerLength ≤ length trace) (en : n ≡ number (take headerLength trace)) where
     values : headerValues trace ≡ split headerWidths n
     unfolding headerValues
     values = ap (split headerWidths) (sym en)
@@ -44,9 +44,9 @@ module _ (trace : List ℕ) where
         (ap sizesOf (es ∙ ap setupIn (sym values)))
 
 -- the signatures of any setup that is read can be counted
-pub read-counts : (n : ℕ) (s : Setup) → s ≡ setupIn (split headerWidths n) → supplyLength s ≤ 65535 * 4096
+pub read-counts : (n : ℕ) (s : Setup) → s ≡ setupIn (split headerWidths n) → supplyLength s ≤ maxSignatures * maxSize
 read-counts n s e =
-    supply-counts s (in-range s (subst (λ (x : Setup). T (setupInRange x)) (sym e) (read-in-range n)))
+    supply-counts s (limited s (subst (λ (x : Setup). T (setupInRange x)) (sym e) (read-in-range n)))
 
 -- whole, or not
 module _ (trace : List ℕ) (r : Header) (er : r ≡ sizesAt trace) where

@@ -1,9 +1,9 @@
--- Each public function's promise leaves one answer; of a part of the trace, one list of bytes. Assumes nothing.
-use mathlib.Core.Path.{_≡_, sym, ap, _∙_}
+-- Each public function's contract leaves one answer; of a part of the trace, one list of bytes.
+use mathlib.Core.Path.{_≡_, sym, _∙_}
 use mathlib.Core.List.{List}
 use Prim.Native.Nat.{ℕ}
 use denote.Ref.{RefT, now}
-use Rattle.trace_bits.proofs.Promise.{OneAnswer, OneSight}
+use Rattle.rules.specs.OneAnswer.{OneAnswer, OneSight}
 use Rattle.trace_read.specs.Promises.{Reads, Unread, Finds, Behind}
 use Rattle.trace_read.specs.declared.Reader.{Reader}
 use Rattle.trace_read.specs.declared.Found.{Found}

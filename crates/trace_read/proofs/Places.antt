@@ -1,14 +1,13 @@
--- Which case of `readAt` holds, by the tests that the code made; and what is known of a record that was read. Assumes nothing.
-use mathlib.Core.Path.{_≡_, refl, sym, ap, subst, _∙_}
-use mathlib.Core.Bool.{Bool, true, false, cond}
-use mathlib.Core.List.{List, [], _∷_}
+-- Which case of `readAt` holds, by the tests that the code made; and what is known of a record that was read.
+use mathlib.Core.Path.{_≡_, sym, ap, subst, _∙_}
+use mathlib.Core.Bool.{cond}
+use mathlib.Core.List.{List}
 use Prim.Native.Nat.{ℕ, _+_, _-_, _≤_, _<_, _^_}
 use native.Mathlib.Omega.{arith}
 use lib.ListN.{length, take}
-use lib.Dec.{leb, ltb, eqb}
-use borrow.Author.Tests.{lt-ltb, le-ltb, lt-leb, le-leb, eq-eqb, ne-eqb, leb-true, leb-false, ltb-true, eqb-true, eqb-false}
-use Rattle.trace_bits.specs.Packing.{join, split, octets}
-use Rattle.rules.specs.Bytes.{allOf}
+use borrow.Author.Tests.{lt-ltb, le-ltb, lt-leb, le-leb, eq-eqb, ne-eqb}
+use Rattle.trace_bits.specs.Packing.{split}
+use Rattle.rules.specs.Bytes.{number, allOf}
 use Rattle.rules.specs.Events.{kinds, dataLength}
 use Rattle.rules.specs.declared.Event.{Event}
 use Rattle.trace_form.specs.Form.{headOf, headWidths, valuesAt, fieldsIn, paddingIn, eventOf}
@@ -39,7 +38,7 @@ module _ (f : Form) (unread : List ℕ) (place k : ℕ) (h : Head) (eh : h ≡ h
       let short : length unread < headOf f k .bytes = subst (λ (x : Head). length unread < x .bytes) eh g in
       simp (lt-leb (headOf f k .bytes) (length unread) short)
 
-  module _ (g : h .bytes ≤ length unread) (n : ℕ) (en : n ≡ join 0 (octets (h .bytes)) (take (h .bytes) unread)) where
+  module _ (g : h .bytes ≤ length unread) (n : ℕ) (en : n ≡ number (take (h .bytes) unread)) where
     long : headOf f k .bytes ≤ length unread
     long = subst (λ (x : Head). x .bytes ≤ length unread) eh g
 

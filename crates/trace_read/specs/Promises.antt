@@ -1,5 +1,5 @@
 -- What the functions over a `Reader` promise of their results, and `read_record`, which makes one: named here so that what is
--- proved of these promises is about the ones that the contracts cite. Assumes nothing.
+-- proved of these promises is about the ones that the contracts cite.
 use mathlib.Core.Path.{_≡_}
 use mathlib.Core.List.{List}
 use Prim.Native.Nat.{ℕ}

@@ -1,5 +1,5 @@
 -- Document 01, "The trace form" and "What is answered": what reading a header and a record gives, with the checks in their
--- order. Assumes nothing.
+-- order.
 use mathlib.Core.List.{List, [], _∷_}
 use mathlib.Core.Bool.{Bool, cond}
 use Prim.Native.Nat.{ℕ, _+_, _-_, _/_, _^_, _≤_}

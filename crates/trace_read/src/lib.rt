@@ -7,7 +7,8 @@ ghost use Rattle.trace_bits.specs.Packing.{split};
 ghost use Rattle.trace_form.specs.Form.{Right, first, eventOf};
 ghost use Rattle.trace_form.specs.Header.{headerWidths, setupIn, spareIn};
 ghost use Rattle.trace_read.specs.Promises.{Reads, Unread, Finds, Behind};
-ghost use Rattle.trace_read.specs.Reading.{sizesAt, headerAt, supplyIn, recordsIn, Owns, dataAt, recordOf, readAt, dataIn, unreadAfter, placeAfter};
+ghost use Rattle.trace_read.specs.Reading.{sizesAt, headerAt, supplyIn, recordsIn, Owns, dataAt, recordOf, readAt};
+ghost use Rattle.trace_read.specs.Reading.{dataIn, unreadAfter, placeAfter};
 use rules::Answer;
 use rules::Event;
 use rules::Setup;
@@ -43,25 +44,27 @@ pub enum Owner {
     Application,
 }
 
-// A header's bytes, without the signatures.
-const HEADER: usize = 6;
-
 fn spare_in(n: usize) -> usize
     ensures { λ r. ⌜ r ≡ spareIn (split headerWidths n) ⌝ }
 {
-    trace_bits::field(n, 0, 6)
+    trace_bits::field(n, 0, Form::SPARE)
 }
 
 fn setup_in(n: usize) -> Setup
     ensures { λ r. ⌜ r ≡ setupIn (split headerWidths n) ⌝ }
 {
+    let after_frames = Form::SIGNATURES + Form::SPARE;
+    let after_contexts = Form::FRAME + after_frames;
+    let after_pages = Form::CONTEXT + after_contexts;
+    let after_domains = Form::PAGE + after_pages;
+    let after_size = Form::DOMAIN + after_domains;
     Setup {
-        size: (trace_bits::field(n, 40, 8) + 1) * Setup::SIZE_UNIT,
-        domains: trace_bits::field(n, 37, 3) + 1,
-        pages: trace_bits::field(n, 32, 5) + 1,
-        contexts: trace_bits::field(n, 28, 4) + 1,
-        frames: trace_bits::field(n, 22, 6) + 1,
-        signatures: trace_bits::field(n, 6, 16),
+        size: (trace_bits::field(n, after_size, Form::SIZE) + 1) * Setup::SIZE_UNIT,
+        domains: trace_bits::field(n, after_domains, Form::DOMAIN) + 1,
+        pages: trace_bits::field(n, after_pages, Form::PAGE) + 1,
+        contexts: trace_bits::field(n, after_contexts, Form::CONTEXT) + 1,
+        frames: trace_bits::field(n, after_frames, Form::FRAME) + 1,
+        signatures: trace_bits::field(n, Form::SPARE, Form::SIGNATURES),
     }
 }
 
@@ -69,15 +72,15 @@ fn setup_in(n: usize) -> Setup
 pub fn read_sizes(trace: &[u8]) -> Header
     ensures { λ r. ⌜ r ≡ sizesAt (now (trace .entry)) ⌝ }
 {
-    if trace.len() < HEADER {
+    if trace.len() < Form::HEADER {
         return Header::Refused(Answer::CUT_SHORT);
     }
-    let n = trace_bits::load(trace, HEADER);
+    let n = numbers::load(trace, Form::HEADER) as usize;
     if spare_in(n) != 0 {
         return Header::Refused(Answer::CUT_SHORT);
     }
     let setup = setup_in(n);
-    Header::Sizes(setup, HEADER + setup.signatures * setup.size)
+    Header::Sizes(setup, Form::HEADER + setup.signatures * setup.size)
 }
 
 // What the header says, where its signatures are whole too.
@@ -122,7 +125,7 @@ pub fn supply(trace: &[u8]) -> &[u8]
     ensures { λ r. ⌜ now r ≡ supplyIn (headerAt (now (trace .entry))) (now (trace .entry)) ⌝ }
 {
     match read_header(trace) {
-        Header::Sizes(_, start) => part(trace, HEADER, start - HEADER),
+        Header::Sizes(_, start) => part(trace, Form::HEADER, start - Form::HEADER),
         Header::Refused(_) => part(trace, 0, 0),
     }
 }
@@ -162,7 +165,7 @@ fn data_at(n: usize, place: usize, start: usize, event: Event) -> Found
     requires { ⌜ (start ≤ n) × (place + n < 2 ^ 64) ⌝ }
     ensures { λ r. ⌜ r ≡ dataAt n place start event ⌝ }
 {
-    let len = trace_form::data_length(event);
+    let len = event.data_length();
     if n - start < len {
         return Found::Refused(Answer::CUT_SHORT);
     }
@@ -180,16 +183,16 @@ fn record_of(form: Form, unread: &[u8], place: usize, kind: usize, owner: Owner)
     requires { ⌜ Right form × (place + length (now unread) < 2 ^ 64) × Owns owner kind ⌝ }
     ensures { λ r. ⌜ r ≡ recordOf form kind (now (unread .entry)) place ⌝ }
 {
-    let head = trace_form::head_of(form, kind);
+    let head = form.head(kind);
     let bytes = head.bytes;
     if unread.len() < bytes {
         return Found::Refused(Answer::CUT_SHORT);
     }
-    let n = trace_bits::load(unread, bytes);
-    if trace_form::padding_in(head, n) != 0 {
+    let n = numbers::load(unread, bytes) as usize;
+    if head.padding_in(n) != 0 {
         return Found::Refused(Answer::CUT_SHORT);
     }
-    let event = event_of(owner, kind, trace_form::fields_in(head, n));
+    let event = event_of(owner, kind, head.fields_in(n));
     data_at(unread.len(), place, bytes, event)
 }
 

@@ -1,7 +1,7 @@
--- Each public function's promise leaves one answer: one number, one count and one output. Assumes nothing.
+-- Each public function's contract leaves one answer: one number, one count and one output.
 use mathlib.Core.Path.{sym, _∙_}
 use denote.Ref.{now}
-use Rattle.trace_bits.proofs.Promise.{OneSight}
+use Rattle.rules.specs.OneAnswer.{OneSight}
 use Rattle.trace_write.specs.Writing.{Written, left}
 use Rattle.trace_write.proofs.write_header as write-header
 use Rattle.trace_write.proofs.write_record as write-record

@@ -1,31 +1,33 @@
--- What writing leaves: the head's bytes and those behind it over the output's front, or the output as it was. Assumes nothing.
-use mathlib.Core.Path.{_≡_, refl, sym, ap, ap₂, subst₂, _∙_}
-use mathlib.Core.List.{List, [], _∷_, _++_, append-assoc, append-nil}
+-- What writing leaves: the head's bytes and those behind it over the output's front, or the output as it was.
+use mathlib.Core.Path.{_≡_, sym, ap, ap₂, subst, subst₂, _∙_}
+use mathlib.Core.List.{List, [], _++_, append-assoc, append-nil}
 use Prim.Native.Nat.{ℕ, _+_, _-_, _≤_, _<_, _^_}
 use native.Mathlib.Nat.{le-of-eq, le-trans, lt-of-lt-of-le, zero-add}
 use native.Mathlib.Omega.{arith}
 use lib.ListN.{length, take, drop, length-append, length-drop, drop-of-length-le}
 use lib.Seq.{take-at, drop-at, take-all, take-length, drop-drop}
-use borrow.Author.Tests.{eq-eqb, ne-eqb}
-use Rattle.trace_bits.specs.Packing.{join, split, octets}
-use Rattle.trace_bits.proofs.Bytes.{length-octets}
-use Rattle.rules.specs.Bytes.{overlay}
-use Rattle.rules.specs.Events.{kinds, kindOf, dataLength}
+use borrow.Author.Tests.{ne-eqb}
+use Rattle.trace_bits.specs.Packing.{join}
+use Rattle.rules.specs.Bytes.{overlay, bigEndian}
+use Rattle.rules.specs.Events.{kindOf, dataLength}
 use Rattle.rules.proofs.Parts.{overlay-is}
 use Rattle.rules.proofs.Rows.{kind-below}
 use Rattle.rules.specs.declared.Setup.{Setup}
 use Rattle.rules.specs.declared.Event.{Event}
 use Rattle.trace_form.specs.Form.{Right, headOf, headWidths, values, fieldsOf, headBytes}
-use Rattle.trace_form.specs.Bounds.{Laid, Within, InRange}
+use Rattle.trace_form.specs.Bounds.{Laid, Within}
+use Rattle.rules.specs.Asked.{Limited}
+use Rattle.rules.proofs.Facts.{limited}
 use Rattle.trace_form.specs.Header.{headerWidths, headerLength, setupValues, headerBytes, headerOf}
 use Rattle.trace_form.specs.declared.Form.{Form}
 use Rattle.trace_form.specs.declared.Head.{Head}
 use Rattle.trace_form.specs.declared.Fields.{Fields}
 use Rattle.trace_form.proofs.Heads.{laid, laid-at, length-head}
 use Rattle.trace_form.proofs.Events.{event-within}
-use Rattle.trace_form.proofs.Headers.{in-range, length-header}
-use Rattle.trace_write.specs.Writing.{Written, refused, written, headerRefusal, writeHeader, recordBytes, refusalOf, recordRefusal, writeRecord}
-use Rattle.trace_write.proofs.Refusals.{HeaderReady, header-ready, RecordReady, record-ready}
+use Rattle.trace_form.proofs.Headers.{length-header}
+use Rattle.trace_write.specs.Writing.{Written, refused, written, headerRefusal, writeHeader, recordBytes, refusalOf}
+use Rattle.trace_write.specs.Writing.{recordRefusal, writeRecord}
+use Rattle.trace_write.proofs.Refusals.{header-ready, RecordReady, record-ready}
 
 -- bytes over the front
 pub overlay-front : (new out : List ℕ) → length new ≤ length out → overlay 0 new out ≡ new ++ drop (length new) out
@@ -78,17 +80,17 @@ module _ (s : Setup) (supply out : List ℕ) (n : ℕ) (en : n ≡ headerRefusal
   header-refused ne = was-refused n (headerRefusal s supply (length out)) (headerOf s supply) out en ne
 
   module _ (z : n ≡ 0) where
-    pub header-fits : InRange s × (headerLength + length supply ≤ length out)
-    header-fits = let r = header-ready s supply (length out) (sym en ∙ z) in (in-range s (r .sizes), r .enough)
+    pub header-fits : Limited s × (headerLength + length supply ≤ length out)
+    header-fits = let r = header-ready s supply (length out) (sym en ∙ z) in (limited s (r .sizes), r .enough)
 
     pub header-written : (m count : ℕ) (after : List ℕ) → m ≡ join 0 headerWidths (setupValues s)
-        → count ≡ headerLength + length supply → after ≡ overlay 0 (split (octets headerLength) m ++ supply) out
+        → count ≡ headerLength + length supply → after ≡ overlay 0 (bigEndian headerLength m ++ supply) out
         → _≡_ {A = Written} (record { number = 0; count = count; out = after }) (writeHeader s supply out)
     unfolding writeHeader headerOf headerBytes
     header-written m count after em ec ea =
         was-done (headerRefusal s supply (length out)) count (headerOf s supply) out after (sym z ∙ en)
         (ec ∙ sym (length-headerOf s supply))
-        (ea ∙ ap (λ (x : ℕ). overlay 0 (split (octets headerLength) x ++ supply) out) em)
+        (ea ∙ ap (λ (x : ℕ). overlay 0 (bigEndian headerLength x ++ supply) out) em)
 
 -- a record, written
 pub length-record : (f : Form) (e : Event) (new : List ℕ) → Right f
@@ -109,51 +111,67 @@ module _ (f : Form) (e : Event) (right : Right f) where
   unfolding headOf
   fields-fit want n room r = event-within f e (r .one) (r .two) (r .three) (r .some) (r .len) (r .off)
 
-refusal-opened : (f : Form) (e : Event) (new out : List ℕ) → recordRefusal f e new (length out) ≡ 0
-    → refusalOf (headOf f (kindOf e)) (fieldsOf e) (dataLength e) (length new) (length out) ≡ 0
-unfolding recordRefusal
-refusal-opened f e new out h = h
+-- what the code works out of an event before it writes, and that it is right
+pub record Prepared (f : Form) (e : Event) (new out : List ℕ) : Type 0 where
+  pub right : Right f
+  pub kind : ℕ
+  pub kind-is : kind ≡ kindOf e
+  pub head : Head
+  pub head-is : head ≡ headOf f kind
+  pub fields : Fields
+  pub fields-is : fields ≡ fieldsOf e
+  pub want : ℕ
+  pub want-is : want ≡ dataLength e
+  pub number : ℕ
+  pub number-is : number ≡ refusalOf head fields want (length new) (length out)
 
--- k, h and v are what the code worked out of the event
-module _ (f : Form) (e : Event) (new out : List ℕ) (right : Right f) (k : ℕ) (ek : k ≡ kindOf e) (h : Head) (eh : h ≡ headOf f k) (v : Fields) (ev : v ≡ fieldsOf e) (want : ℕ) (ew : want ≡ dataLength e) (n : ℕ) (en : n ≡ refusalOf h v want (length new) (length out)) where
-  the-head : h ≡ headOf f (kindOf e)
-  the-head = eh ∙ ap (headOf f) ek
+module _ {f : Form} {e : Event} {new out : List ℕ} (p : Prepared f e new out) where
+  abbrev the-head : Head
+  the-head = headOf f (kindOf e)
 
-  number : n ≡ recordRefusal f e new (length out)
+  head-of-event : p .head ≡ the-head
+  head-of-event = p .head-is ∙ ap (headOf f) (p .kind-is)
+
+  number-of-event : p .number ≡ refusalOf the-head (fieldsOf e) (dataLength e) (length new) (length out)
+  number-of-event =
+      p .number-is
+      ∙ ap₂ (λ (x : Head) (y : Fields). refusalOf x y (p .want) (length new) (length out)) head-of-event (p .fields-is)
+      ∙ ap (λ (x : ℕ). refusalOf the-head (fieldsOf e) x (length new) (length out)) (p .want-is)
+
+  refusal-of-event : p .number ≡ recordRefusal f e new (length out)
   unfolding recordRefusal
-  number =
-      en
-      ∙ ap₂ (λ (x : Head) (y : Fields). refusalOf x y want (length new) (length out)) the-head ev
-      ∙ ap (λ (x : ℕ). refusalOf (headOf f (kindOf e)) (fieldsOf e) x (length new) (length out)) ew
+  refusal-of-event = number-of-event
 
-  pub record-refused : (n ≡ 0 → ⊥) → refused n out ≡ writeRecord f e new out
+  pub record-refused : (p .number ≡ 0 → ⊥) → refused (p .number) out ≡ writeRecord f e new out
   unfolding writeRecord
-  record-refused ne = was-refused n (recordRefusal f e new (length out)) (recordBytes f e new) out number ne
+  record-refused ne =
+      was-refused (p .number) (recordRefusal f e new (length out)) (recordBytes f e new) out refusal-of-event ne
 
-  module _ (z : n ≡ 0) where
-    ready : RecordReady h v want (length new) (length out)
-    ready = record-ready h v want (length new) (length out) (sym en ∙ z)
+  module _ (z : p .number ≡ 0) where
+    ready : RecordReady the-head (fieldsOf e) (dataLength e) (length new) (length out)
+    ready = record-ready the-head (fieldsOf e) (dataLength e) (length new) (length out) (sym number-of-event ∙ z)
 
-    pub record-fits : (Laid h × Within (h .widths) v × (k < 2 ^ h .kind)) × (h .bytes + length new ≤ length out)
+    pub record-fits : (Laid (p .head) × Within (p .head .widths) (p .fields) × (p .kind < 2 ^ p .head .kind))
+        × (p .head .bytes + length new ≤ length out)
     record-fits =
-        let r = record-ready (headOf f (kindOf e)) (fieldsOf e) (dataLength e) (length new) (length out) (refusal-opened f e new out (sym number ∙ z)) in (
+        let within = fields-fit f e (p .right) (dataLength e) (length new) (length out) ready in (
           (
-            laid-at f k h right eh,
-            subst₂ (λ (x : Head) (y : Fields). Within (x .widths) y) (sym the-head) (sym ev) (fields-fit f e right (dataLength e) (length new) (length out) r),
-            subst₂ (λ (x : ℕ) (y : Head). x < 2 ^ y .kind) (sym ek) (sym the-head) (kind-fits f e right),
+            laid-at f (p .kind) (p .head) (p .right) (p .head-is),
+            subst₂ (λ (x : Head) (y : Fields). Within (x .widths) y) (sym head-of-event) (sym (p .fields-is)) within,
+            subst₂ (λ (x : ℕ) (y : Head). x < 2 ^ y .kind) (sym (p .kind-is)) (sym head-of-event) (kind-fits f e (p .right)),
           ),
-          ready .enough,
+          subst (λ (x : Head). x .bytes + length new ≤ length out) (sym head-of-event) (ready .enough),
         )
 
-    pub record-written : (m count : ℕ) (after : List ℕ) → m ≡ join 0 (headWidths h) (values k v)
-        → count ≡ h .bytes + length new → after ≡ overlay 0 (split (octets (h .bytes)) m ++ new) out
+    pub record-written : (m count : ℕ) (after : List ℕ) → m ≡ join 0 (headWidths (p .head)) (values (p .kind) (p .fields))
+        → count ≡ p .head .bytes + length new → after ≡ overlay 0 (bigEndian (p .head .bytes) m ++ new) out
         → _≡_ {A = Written} (record { number = 0; count = count; out = after }) (writeRecord f e new out)
     unfolding writeRecord recordBytes headBytes
     record-written m count after em ec ea =
-        let bytes : split (octets (h .bytes)) m ≡ headBytes (headOf f (kindOf e)) (kindOf e) (fieldsOf e) =
-        ap (split (octets (h .bytes))) em
-        ∙ ap (λ (x : Head). headBytes x k v) the-head
-        ∙ ap₂ (λ (x : ℕ) (y : Fields). headBytes (headOf f (kindOf e)) x y) ek ev in
-        was-done (recordRefusal f e new (length out)) count (recordBytes f e new) out after (sym z ∙ number)
-        (ec ∙ ap (λ (x : Head). x .bytes + length new) the-head ∙ sym (length-record f e new right))
+        let bytes : bigEndian (p .head .bytes) m ≡ headBytes the-head (kindOf e) (fieldsOf e) =
+        ap (bigEndian (p .head .bytes)) em
+        ∙ ap (λ (x : Head). headBytes x (p .kind) (p .fields)) head-of-event
+        ∙ ap₂ (λ (x : ℕ) (y : Fields). headBytes the-head x y) (p .kind-is) (p .fields-is) in
+        was-done (recordRefusal f e new (length out)) count (recordBytes f e new) out after (sym z ∙ refusal-of-event)
+        (ec ∙ ap (λ (x : Head). x .bytes + length new) head-of-event ∙ sym (length-record f e new (p .right)))
         (ea ∙ ap (λ (x : List ℕ). overlay 0 (x ++ new) out) bytes)

@@ -1,27 +1,25 @@
--- Which number the writer's checks give, by the tests that the code made; and what is known where it is 0. Assumes nothing.
-use mathlib.Core.Path.{_≡_, refl, sym, ap, subst, _∙_}
-use mathlib.Core.Bool.{Bool, true, false, not, _&&_, and-true}
+-- Which number the writer's checks give, by the tests that the code made; and what is known where it is 0.
+use mathlib.Core.Path.{_≡_, refl, subst}
+use mathlib.Core.Bool.{Bool, true, false, not}
 use mathlib.Core.List.{List, [], _∷_}
-use Prim.Native.Nat.{ℕ, _+_, _-_, _*_, _/_, _^_, _≤_, _<_}
+use Prim.Native.Nat.{ℕ, _+_, _-_, _/_, _^_, _≤_, _<_}
 use native.Mathlib.Nat.{div-eq-of-lt, div-lt-iff-lt-mul, one-mul, not-le-of-lt}
 use native.Mathlib.Omega.{arith}
 use lib.Dec.{T, eqb, leb, ltb, ltb→lt, leb→le, eqb→eq}
 use lib.ListN.{length}
 use lib.Pow.{pow-pos}
-use borrow.Author.Tests.{eq-eqb, ne-eqb, lt-ltb, le-ltb, ltb-true, ltb-false, not-true, not-false}
+use borrow.Author.Tests.{eq-eqb, ne-eqb, lt-ltb, le-ltb, ltb-true, ltb-false, not-false}
 use Rattle.rules.specs.Bytes.{allOf}
 use Rattle.rules.specs.Sizes.{setupInRange, supplyRight}
 use Rattle.rules.specs.Answers.{check, firstOf}
 use Rattle.rules.proofs.Facts.{each, passed}
 use Rattle.rules.specs.declared.Setup.{Setup}
 use Rattle.rules.specs.declared.Span.{Span}
-use Rattle.trace_form.specs.Bounds.{InRange}
 use Rattle.trace_form.specs.Header.{headerLength, supplyLength}
 use Rattle.trace_form.specs.declared.Widths.{Widths}
 use Rattle.trace_form.specs.declared.Head.{Head}
 use Rattle.trace_form.specs.declared.Fields.{Fields}
-use Rattle.trace_form.proofs.Headers.{in-range}
-use Rattle.trace_form.proofs.Checks.{first-passed}
+use Rattle.rules.proofs.Checks.{first-passed}
 use Rattle.trace_write.specs.Writing.{headerRefusal, numbersFit, spanFits, maxOff, maxLen, refusalOf}
 
 -- a number fits w bits exactly if nothing is left when they are shifted out
@@ -37,39 +35,27 @@ fits-test v w = go (ltb v (2 ^ w)) refl
         (div-lt-iff-lt-mul {k = 2 ^ w} {x = v} {y = 1} (pow-pos w) .0 (omega (arith, e))))
         (ltb-false v (2 ^ w) t))
 
--- three tests, as the code joins them
-pub all-three : (a b c inner outer : Bool) → inner ≡ b && c → outer ≡ a && inner → outer ≡ allOf (a ∷ b ∷ c ∷ [])
-unfolding allOf
-all-three a b c inner outer p q = simp and-true (q ∙ ap (λ (x : Bool). a && x) p)
-
--- a header; r is what the code found of the setup
-module _ (s : Setup) (supply : List ℕ) (room : ℕ) (r : Bool) (er : r ≡ setupInRange s) where
-  pub header-range : not r ≡ true → 10 ≡ headerRefusal s supply room
+-- a header
+module _ (s : Setup) (supply : List ℕ) (room : ℕ) where
+  pub header-range : setupInRange s ≡ false → 10 ≡ headerRefusal s supply room
   unfolding headerRefusal firstOf check allOf
-  header-range t =
-      let out : setupInRange s ≡ false = sym er ∙ not-true r t in
-      simp out
+  header-range out = simp out
 
-  module _ (t : not r ≡ false) where
-    within : setupInRange s ≡ true
-    within = sym er ∙ not-false r t
-
-    pub header-sizes : InRange s
-    header-sizes = in-range s (passed (setupInRange s) within)
-
+  module _ (within : setupInRange s ≡ true) where
     pub header-supply : (length supply ≡ supplyLength s → ⊥) → 10 ≡ headerRefusal s supply room
     unfolding headerRefusal firstOf check allOf supplyRight
     header-supply ne = simp (within, ne-eqb (length supply) (supplyLength s) ne)
 
-    pub header-room : length supply ≡ supplyLength s → room < headerLength + length supply → 11 ≡ headerRefusal s supply room
-    unfolding headerRefusal firstOf check allOf supplyRight
-    header-room e h =
-        simp (within, eq-eqb (length supply) (supplyLength s) e, lt-ltb room (headerLength + length supply) h)
+    module _ (whole : length supply ≡ supplyLength s) where
+      pub header-room : room < headerLength + length supply → 11 ≡ headerRefusal s supply room
+      unfolding headerRefusal firstOf check allOf supplyRight
+      header-room h =
+          simp (within, eq-eqb (length supply) (supplyLength s) whole, lt-ltb room (headerLength + length supply) h)
 
-    pub header-done : length supply ≡ supplyLength s → headerLength + length supply ≤ room → 0 ≡ headerRefusal s supply room
-    unfolding headerRefusal firstOf check allOf supplyRight
-    header-done e h =
-        simp (within, eq-eqb (length supply) (supplyLength s) e, le-ltb room (headerLength + length supply) h)
+      pub header-done : headerLength + length supply ≤ room → 0 ≡ headerRefusal s supply room
+      unfolding headerRefusal firstOf check allOf supplyRight
+      header-done h =
+          simp (within, eq-eqb (length supply) (supplyLength s) whole, le-ltb room (headerLength + length supply) h)
 
 -- what holds of a header that is not refused
 pub record HeaderReady (s : Setup) (supply : List ℕ) (room : ℕ) : Type 0 where
@@ -91,39 +77,30 @@ header-ready s supply room e =
       enough = ltb-false room (headerLength + length supply) (b .0);
     }
 
--- a record; a and b are what the code found of the numbers and of the span
-module _ (h : Head) (v : Fields) (want n room : ℕ) (a : Bool) (ea : a ≡ numbersFit (h .widths) v) where
-  pub record-numbers : not a ≡ true → 2 ≡ refusalOf h v want n room
+-- a record
+module _ (h : Head) (v : Fields) (want n room : ℕ) where
+  pub record-numbers : numbersFit (h .widths) v ≡ false → 2 ≡ refusalOf h v want n room
   unfolding refusalOf firstOf check
-  record-numbers t =
-      let out : numbersFit (h .widths) v ≡ false = sym ea ∙ not-true a t in
-      simp out
+  record-numbers out = simp out
 
-  module _ (ta : not a ≡ false) (b : Bool) (eb : b ≡ spanFits (v .span)) where
-    numbers : numbersFit (h .widths) v ≡ true
-    numbers = sym ea ∙ not-false a ta
-
-    pub record-span : not b ≡ true → 3 ≡ refusalOf h v want n room
+  module _ (numbers : numbersFit (h .widths) v ≡ true) where
+    pub record-span : spanFits (v .span) ≡ false → 3 ≡ refusalOf h v want n room
     unfolding refusalOf firstOf check allOf
-    record-span t =
-        let out : spanFits (v .span) ≡ false = sym eb ∙ not-true b t in
-        simp (numbers, out)
+    record-span out = simp (numbers, out)
 
-    module _ (tb : not b ≡ false) where
-      span : spanFits (v .span) ≡ true
-      span = sym eb ∙ not-false b tb
-
+    module _ (span : spanFits (v .span) ≡ true) where
       pub record-data : (n ≡ want → ⊥) → 3 ≡ refusalOf h v want n room
       unfolding refusalOf firstOf check allOf
       record-data ne = simp (numbers, span, ne-eqb n want ne)
 
-      pub record-room : n ≡ want → room < h .bytes + n → 11 ≡ refusalOf h v want n room
-      unfolding refusalOf firstOf check allOf
-      record-room e g = simp (numbers, span, eq-eqb n want e, lt-ltb room (h .bytes + n) g)
+      module _ (whole : n ≡ want) where
+        pub record-room : room < h .bytes + n → 11 ≡ refusalOf h v want n room
+        unfolding refusalOf firstOf check allOf
+        record-room g = simp (numbers, span, eq-eqb n want whole, lt-ltb room (h .bytes + n) g)
 
-      pub record-done : n ≡ want → h .bytes + n ≤ room → 0 ≡ refusalOf h v want n room
-      unfolding refusalOf firstOf check allOf
-      record-done e g = simp (numbers, span, eq-eqb n want e, le-ltb room (h .bytes + n) g)
+        pub record-done : h .bytes + n ≤ room → 0 ≡ refusalOf h v want n room
+        unfolding refusalOf firstOf check allOf
+        record-done g = simp (numbers, span, eq-eqb n want whole, le-ltb room (h .bytes + n) g)
 
 -- what holds of a record that is not refused
 pub record RecordReady (h : Head) (v : Fields) (want n room : ℕ) : Type 0 where

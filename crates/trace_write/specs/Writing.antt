@@ -1,5 +1,5 @@
 -- Document 01, "The trace form" and "What is answered": the bytes of a header and of a record, and what writing them gives,
--- with the checks in their order. Assumes nothing.
+-- with the checks in their order.
 use mathlib.Core.List.{List, [], _∷_, _++_}
 use mathlib.Core.Bool.{Bool, not, cond}
 use Prim.Native.Nat.{ℕ, _+_, _^_}

@@ -1,14 +1,14 @@
 // The writer: a trace's header, and its records one after the other, each at the front of the output that it is lent.
 ghost use mathlib.Core.Path.{_≡_};
-ghost use mathlib.Core.Bool.{_&&_};
 ghost use mathlib.Core.List.{_++_};
 ghost use Prim.Native.Nat.{_+_, _^_, _≤_, _<_};
 ghost use lib.ListN.{length};
 ghost use lib.Dec.{ltb};
-ghost use Rattle.trace_bits.specs.Packing.{join, split, octets};
-ghost use Rattle.rules.specs.Bytes.{overlay};
+ghost use Rattle.trace_bits.specs.Packing.{join};
+ghost use Rattle.rules.specs.Bytes.{overlay, bigEndian};
+ghost use Rattle.rules.specs.Asked.{Limited};
 ghost use Rattle.trace_form.specs.Form.{Right, first};
-ghost use Rattle.trace_form.specs.Bounds.{Laid, InRange};
+ghost use Rattle.trace_form.specs.Bounds.{Laid};
 ghost use Rattle.trace_form.specs.Header.{headerWidths, setupValues};
 ghost use Rattle.trace_write.specs.Writing.{left, headerRefusal, writeHeader, numbersFit, spanFits, refusalOf, writeRecord};
 use rules::Answer;
@@ -27,42 +27,33 @@ pub struct Wrote {
     pub count: usize,
 }
 
-// A header's bytes, without the signatures.
-const HEADER: usize = 6;
-
 const MAX_OFF: usize = 4095;
 
 const MAX_LEN: usize = 4096;
 
-// The k bytes that spell n, then the others, over the front of out.
+// The k bytes of n, then the others, over the front of out.
 fn put(k: usize, n: usize, others: &[u8], out: &mut [u8]) -> usize
-    requires { ⌜ (k ≤ 8) × (k + length (now others) ≤ length (now out)) ⌝ }
+    requires { ⌜ k + length (now others) ≤ length (now out) ⌝ }
     ensures { λ r. ⌜ r ≡ k + length (now (others .entry)) ⌝ }
-    ensures { λ _. ⌜ now (out .exit) ≡ overlay 0 (split (octets k) n ++ now (others .entry)) (now (out .entry)) ⌝ }
+    ensures { λ _. ⌜ now (out .exit) ≡ overlay 0 (bigEndian k n ++ now (others .entry)) (now (out .entry)) ⌝ }
 {
-    trace_bits::store(out, k, n);
+    numbers::store(out, k, n as u64);
     bytes::copy(others, &mut out[k..]);
     k + others.len()
 }
 
-fn both(a: bool, b: bool) -> bool
-    ensures { λ r. ⌜ r ≡ a && b ⌝ }
-{
-    if a { b } else { false }
-}
-
 // The number that a header's sizes spell.
 fn packed_setup(setup: Setup) -> usize
-    requires { ⌜ InRange setup ⌝ }
+    requires { ⌜ Limited setup ⌝ }
     ensures { λ r. ⌜ r ≡ join 0 headerWidths (setupValues setup) ⌝ }
 {
-    let one = Packed::none().with(8, setup.size / Setup::SIZE_UNIT - 1);
-    let two = one.with(3, setup.domains - 1);
-    let three = two.with(5, setup.pages - 1);
-    let four = three.with(4, setup.contexts - 1);
-    let five = four.with(6, setup.frames - 1);
-    let six = five.with(16, setup.signatures);
-    let whole = six.with(6, 0);
+    let one = Packed::none().with(Form::SIZE, setup.size / Setup::SIZE_UNIT - 1);
+    let two = one.with(Form::DOMAIN, setup.domains - 1);
+    let three = two.with(Form::PAGE, setup.pages - 1);
+    let four = three.with(Form::CONTEXT, setup.contexts - 1);
+    let five = four.with(Form::FRAME, setup.frames - 1);
+    let six = five.with(Form::SIGNATURES, setup.signatures);
+    let whole = six.with(Form::SPARE, 0);
     whole.number
 }
 
@@ -76,10 +67,10 @@ fn header_refusal(setup: Setup, supply: &[u8], room: usize) -> u8
     if supply.len() != setup.signatures * setup.size {
         return Answer::NOT_ACCEPTABLE;
     }
-    if room < HEADER {
+    if room < Form::HEADER {
         return Answer::NO_ROOM;
     }
-    if room - HEADER < supply.len() {
+    if room - Form::HEADER < supply.len() {
         return Answer::NO_ROOM;
     }
     Answer::DONE
@@ -93,7 +84,7 @@ pub fn write_header(setup: Setup, supply: &[u8], out: &mut [u8]) -> Wrote
     if number != 0 {
         return Wrote { number, count: 0 };
     }
-    let count = put(HEADER, packed_setup(setup), supply, out);
+    let count = put(Form::HEADER, packed_setup(setup), supply, out);
     Wrote { number: 0, count }
 }
 
@@ -112,13 +103,16 @@ fn numbers_fit(head: Head, v: Fields) -> bool
     let one = fits(w.first, v.first);
     let two = fits(w.second, v.second);
     let three = fits(w.third, v.third);
-    both(one, both(two, three))
+    rules::both(one, rules::both(two, three))
 }
 
 fn span_fits(span: Span) -> bool
     ensures { λ r. ⌜ r ≡ spanFits span ⌝ }
 {
-    both(0 < span.len, both(span.len <= MAX_LEN, span.off <= MAX_OFF))
+    rules::both(
+        0 < span.len,
+        rules::both(span.len <= MAX_LEN, span.off <= MAX_OFF),
+    )
 }
 
 // Why a record with n bytes of data, where want are wanted, cannot be written to room bytes, or 0.
@@ -151,20 +145,14 @@ fn write_in(form: Form, event: Event, new: &[u8], out: &mut [u8]) -> Wrote
     ensures { λ r. ⌜ left r (now (out .exit)) ≡ writeRecord form event (now (new .entry)) (now (out .entry)) ⌝ }
 {
     let kind = event.kind() as usize;
-    let head = trace_form::head_of(form, kind);
-    let v = trace_form::fields_of(event);
-    let number = refusal_of(
-        head,
-        v,
-        trace_form::data_length(event),
-        new.len(),
-        out.len(),
-    );
+    let head = form.head(kind);
+    let v = Fields::of(event);
+    let number = refusal_of(head, v, event.data_length(), new.len(), out.len());
     if number != 0 {
         return Wrote { number, count: 0 };
     }
     let bytes = head.bytes;
-    let count = put(bytes, trace_form::packed(head, kind, v), new, out);
+    let count = put(bytes, head.packed(kind, v), new, out);
     Wrote { number: 0, count }
 }
 

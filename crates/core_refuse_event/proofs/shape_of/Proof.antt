@@ -98,7 +98,9 @@ returns-6 c =
     (record { mask = λ t. c .before .mask-fits .ensures; span = λ t. refl; new = refl; answer = refl })
 
 returns-7 : tie.Need-returns-7
-returns-7 c = told refl (c .shape-with7 .ensures) (shape-of-rest (c .before .before .args .setup) (c .before .before .args .event) (c .before .match .keys7))
+returns-7 c =
+    let a = c .before .before .args in
+    told refl (c .shape-with7 .ensures) (shape-of-rest (a .setup) (a .event) (c .before .match .keys7))
 
 pub shape-of-spec : {M : Type 1} → statement M
 shape-of-spec =

@@ -34,17 +34,17 @@ mul-x c = omega arith
 array-read-x : tie.Need-array-read-x Inv-loop μ-loop
 array-read-x c = omega arith
 
-sub-spell : tie.Need-sub-spell Inv-loop μ-loop
-sub-spell c = omega arith
+sub-store : tie.Need-sub-store Inv-loop μ-loop
+sub-store c = omega arith
 
-part-spell-start : tie.Need-part-spell-start Inv-loop μ-loop
-part-spell-start c = omega arith
+part-store-start : tie.Need-part-store-start Inv-loop μ-loop
+part-store-start c = omega arith
 
-part-spell-end : tie.Need-part-spell-end Inv-loop μ-loop
-part-spell-end c = omega arith
+part-store-end : tie.Need-part-store-end Inv-loop μ-loop
+part-store-end c = omega arith
 
-spell-requires : tie.Need-spell-requires Inv-loop μ-loop
-spell-requires c κs = simp (length-take, length-drop) (omega arith)
+store-requires : tie.Need-store-requires Inv-loop μ-loop
+store-requires c κs = simp (length-take, length-drop) (omega arith)
 
 add-i : tie.Need-add-i Inv-loop μ-loop
 add-i c = omega arith
@@ -60,7 +60,7 @@ loop-again c =
       omega arith,
       omega arith,
       give-more (a .registers .words) (a .answer .now) (b .i) (omega arith) (b .answer) _ (b .inv .2)
-          (c .before .before .spell .ensures),
+          (c .before .before .store .ensures),
     )
 
 same-length : tie.Need-same-length Inv-loop μ-loop
@@ -84,10 +84,10 @@ give-spec =
     add-end
     mul-x
     array-read-x
-    sub-spell
-    part-spell-start
-    part-spell-end
-    spell-requires
+    sub-store
+    part-store-start
+    part-store-end
+    store-requires
     add-i
     loop-less
     loop-again

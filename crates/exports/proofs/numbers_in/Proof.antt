@@ -11,7 +11,7 @@ use Rattle.exports.proofs.numbers_in.Tie as tie
 returns : tie.Need-returns
 returns c =
     let a = c .before .before .before .before .before .args in
-    let v = c .before .before .before .fields-of in
+    let v = c .before .before .before .of in
     ap (λ (k : ℕ). row k (v .result) (a .start) (a .len)) (c .before .before .before .before .kind .ensures)
     ∙ ap (λ (w : Fields). row (kindOf (a .event)) w (a .start) (a .len)) (v .ensures)
 

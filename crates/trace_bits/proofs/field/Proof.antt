@@ -2,7 +2,7 @@
 use borrow.Author.Needs.{needs}
 use Prim.Native.Nat.{ℕ, _/_, _^_, _<_}
 use native.Mathlib.Nat.{div-le-self, lt-of-le-of-lt}
-use Rattle.trace_bits.proofs.Bytes.{shifted-back-le, last-bits}
+use Rattle.trace_bits.proofs.Laws.{shifted-back-le, last-bits}
 use Rattle.trace_bits.proofs.field.Statement.{statement}
 use Rattle.trace_bits.proofs.field.Tie as tie
 

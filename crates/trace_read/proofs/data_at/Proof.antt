@@ -8,13 +8,15 @@ returns : tie.Need-returns
 returns c =
     let d = c .before in
     let a = d .before .args in
-    data-short (a .n) (a .place) (a .start) (a .event) (d .data-length .result) (d .data-length .ensures) (d .before .pre .0) (c .if1 .taken)
+    data-short (a .n) (a .place) (a .start) (a .event) (d .data-length .result) (d .data-length .ensures) (d .before .pre .0)
+    (c .if1 .taken)
 
 returns-2 : tie.Need-returns-2
 returns-2 c =
     let d = c .before in
     let a = d .before .args in
-    data-whole (a .n) (a .place) (a .start) (a .event) (d .data-length .result) (d .data-length .ensures) (d .before .pre .0) (c .if1 .left)
+    data-whole (a .n) (a .place) (a .start) (a .event) (d .data-length .result) (d .data-length .ensures) (d .before .pre .0)
+    (c .if1 .left)
 
 pub data-at-spec : {M : Type 1} → statement M
 data-at-spec =

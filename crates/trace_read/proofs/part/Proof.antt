@@ -1,7 +1,7 @@
 -- `trace_read::part` meets its contract: where fewer bytes are left than asked, all of them are the part.
-use mathlib.Core.Path.{_≡_, sym, ap, _∙_}
+use mathlib.Core.Path.{sym, ap, _∙_}
 use native.Mathlib.Omega.{arith}
-use lib.ListN.{length, take}
+use lib.ListN.{take}
 use lib.Seq.{take-all, length-take-le}
 use borrow.Author.Needs.{needs}
 use Rattle.trace_read.proofs.part.Statement.{statement}

@@ -8,13 +8,15 @@ returns : tie.Need-returns
 returns c =
     let g = c .before .before .setup .given in
     let r = c .before .before .before .before in
-    header-cut (r .before .before .args .trace .now) (r .read-sizes .result) (r .read-sizes .ensures) (g .0 .0) (g .0 .1 .0) (g .1) (c .if1 .taken)
+    let trace = r .before .before .args .trace .now in
+    header-cut trace (r .read-sizes .result) (r .read-sizes .ensures) (g .0 .0) (g .0 .1 .0) (g .1) (c .if1 .taken)
 
 returns-2 : tie.Need-returns-2
 returns-2 c =
     let g = c .before .before .setup .given in
     let r = c .before .before .before .before in
-    header-whole (r .before .before .args .trace .now) (r .read-sizes .result) (r .read-sizes .ensures) (g .0 .0) (g .0 .1 .0) (g .1) (c .if1 .left)
+    let trace = r .before .before .args .trace .now in
+    header-whole trace (r .read-sizes .result) (r .read-sizes .ensures) (g .0 .0) (g .0 .1 .0) (g .1) (c .if1 .left)
 
 returns-3 : tie.Need-returns-3
 returns-3 c =

@@ -44,7 +44,8 @@ returns-3 c =
     let k = c .before .before in
     let z = k .before .before in
     let a = z .before .before .before .args in
-    read-beyond (a .form) (a .unread .now) (a .place) (omega arith) (z .if2 .left) (k .kind-in .result) (k .kind-in .ensures) (c .if3 .taken)
+    read-beyond (a .form) (a .unread .now) (a .place) (omega arith) (z .if2 .left) (k .kind-in .result)
+    (k .kind-in .ensures) (c .if3 .taken)
 
 returns-4 : tie.Need-returns-4
 unfolding kindIn

@@ -21,8 +21,8 @@ mul-t4 c =
     let s = c .before in
     omega (arith, read-counts (s .before .before .before .load .result) (s .setup-in .result) (s .setup-in .ensures))
 
-add-t6 : tie.Need-add-t6
-add-t6 c =
+add-t7 : tie.Need-add-t7
+add-t7 c =
     let s = c .before in
     omega (arith, read-counts (s .before .before .before .load .result) (s .setup-in .result) (s .setup-in .ensures))
 
@@ -46,5 +46,5 @@ read-sizes-spec =
     returns-2
     (λ c κs. search needs)
     mul-t4
-    add-t6
+    add-t7
     returns-3)

@@ -10,20 +10,20 @@ returns : tie.Need-returns
 returns c =
     let h = c .before in
     let a = h .before .before .args in
-    head-short (a .form) (a .unread .now) (a .place) (a .kind) (h .head-of .result) (h .head-of .ensures) (c .if1 .taken)
+    head-short (a .form) (a .unread .now) (a .place) (a .kind) (h .head .result) (h .head .ensures) (c .if1 .taken)
 
 load-requires : tie.Need-load-requires
 load-requires c κs =
     let h = c .before in
     let s = h .before .before in
-    let l = laid-at (s .args .form) (s .args .kind) (h .head-of .result) (s .pre .0) (h .head-of .ensures) in
+    let l = laid-at (s .args .form) (s .args .kind) (h .head .result) (s .pre .0) (h .head .ensures) in
     (l .some, omega (arith, l .few), c .if1 .left)
 
 padding-in-requires : tie.Need-padding-in-requires
 padding-in-requires c κs =
     let h = c .before .before in
     let s = h .before .before in
-    laid-at (s .args .form) (s .args .kind) (h .head-of .result) (s .pre .0) (h .head-of .ensures)
+    laid-at (s .args .form) (s .args .kind) (h .head .result) (s .pre .0) (h .head .ensures)
 
 returns-2 : tie.Need-returns-2
 returns-2 c =
@@ -31,14 +31,14 @@ returns-2 c =
     let n = p .before in
     let h = n .before .before in
     let a = h .before .before .args in
-    padding-set (a .form) (a .unread .now) (a .place) (a .kind) (h .head-of .result) (h .head-of .ensures) (n .before .if1 .left)
+    padding-set (a .form) (a .unread .now) (a .place) (a .kind) (h .head .result) (h .head .ensures) (n .before .if1 .left)
     (n .load .result) (n .load .ensures) (p .padding-in .result) (p .padding-in .ensures) (c .if2 .taken)
 
 fields-in-requires : tie.Need-fields-in-requires
 fields-in-requires c κs =
     let h = c .before .before .before .before in
     let s = h .before .before in
-    laid-at (s .args .form) (s .args .kind) (h .head-of .result) (s .pre .0) (h .head-of .ensures)
+    laid-at (s .args .form) (s .args .kind) (h .head .result) (s .pre .0) (h .head .ensures)
 
 returns-3 : tie.Need-returns-3
 returns-3 c =
@@ -49,7 +49,7 @@ returns-3 c =
     let n = p .before in
     let h = n .before .before in
     let a = h .before .before .args in
-    head-read (a .form) (a .unread .now) (a .place) (a .kind) (h .head-of .result) (h .head-of .ensures) (n .before .if1 .left)
+    head-read (a .form) (a .unread .now) (a .place) (a .kind) (h .head .result) (h .head .ensures) (n .before .if1 .left)
     (n .load .result) (n .load .ensures) (p .padding-in .result) (v .fields-in .result) (e .event-of .result) (c .data-at .result)
     (p .padding-in .ensures) (z .if2 .left) (v .fields-in .ensures) (e .event-of .ensures) (c .data-at .ensures)
 

@@ -1,14 +1,19 @@
--- `trace_write::numbers_fit` meets its contract: the list of tests is their conjunction.
-use mathlib.Core.Bool.{and-true}
+-- `trace_write::numbers_fit` meets its contract: its tests, joined two by two, are the list's.
+use mathlib.Core.Path.{_∙_}
 use borrow.Author.Needs.{needs}
-use Rattle.rules.specs.Bytes.{allOf}
+use Rattle.rules.proofs.Facts.{joined, alone}
 use Rattle.trace_write.specs.Writing.{numbersFit}
 use Rattle.trace_write.proofs.numbers_fit.Statement.{statement}
 use Rattle.trace_write.proofs.numbers_fit.Tie as tie
 
 returns : tie.Need-returns
-unfolding numbersFit allOf
-returns c = simp and-true (cc)
+unfolding numbersFit
+returns c =
+    let two = c .before in
+    let third = two .before in
+    let second = third .before in
+    joined _ _ _ (c .both2 .ensures) (second .before .fits2 .ensures)
+    (joined _ _ _ (two .both .ensures) (second .fits3 .ensures) (third .fits4 .ensures ∙ alone _))
 
 pub numbers-fit-spec : {M : Type 1} → statement M
 numbers-fit-spec =

@@ -3,6 +3,7 @@ use mathlib.Core.Path.{_≡_}
 use native.Mathlib.Omega.{arith}
 use lib.Dec.{lit<}
 use borrow.Author.Needs.{needs}
+use Rattle.trace_form.proofs.Headers.{contexts-fit}
 use Rattle.trace_bits.proofs.Laws.{longer}
 use Rattle.trace_write.proofs.packed_setup.Statement.{statement}
 use Rattle.trace_write.proofs.packed_setup.Tie as tie
@@ -23,6 +24,15 @@ so-far c =
       w1 .with .ensures .bits,
       w1 .before .before .none .ensures .bits,
     )
+
+with-requires-4 : tie.Need-with-requires-4
+with-requires-4 c κs =
+    let s = c .before .before .before .before .before .before .before .before in
+    record {
+      sized = c .before .with3 .ensures .sized;
+      fits = contexts-fit (s .args .setup) (s .pre);
+      room = search needs;
+    }
 
 with-requires-6 : tie.Need-with-requires-6
 with-requires-6 c κs =
@@ -64,7 +74,7 @@ packed-setup-spec =
     (λ c. search needs)
     (λ c κs. search needs)
     (λ c. search needs)
-    (λ c κs. search needs)
+    with-requires-4
     (λ c. search needs)
     (λ c κs. search needs)
     with-requires-6

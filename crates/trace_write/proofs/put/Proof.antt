@@ -2,8 +2,8 @@
 use mathlib.Core.Path.{refl}
 use denote.Ref.{now}
 use borrow.Author.Needs.{needs}
-use Rattle.trace_bits.specs.Packing.{split, octets}
-use Rattle.trace_bits.proofs.Bytes.{length-octets}
+use Rattle.rules.specs.Bytes.{bigEndian}
+use Rattle.rules.proofs.BigEndian.{length-bigEndian}
 use Rattle.trace_write.proofs.Outputs.{put-over}
 use Rattle.trace_write.proofs.put.Statement.{statement}
 use Rattle.trace_write.proofs.put.Tie as tie
@@ -15,8 +15,8 @@ returns c =
     let s = st .before .before .before .before in
     let a = s .args in (
       refl,
-      put-over (split (octets (a .k)) (a .n)) (now (a .others)) (now (a .out)) (st .store .last .0) (cp .copy .last .1 .0) (a .k)
-          (length-octets (a .k) (a .n)) (s .pre .1) (st .store .ensures) (cp .copy .ensures .1),
+      put-over (bigEndian (a .k) (a .n)) (now (a .others)) (now (a .out)) (st .store .last .0) (cp .copy .last .1 .0) (a .k)
+          (length-bigEndian (a .k) (a .n)) (s .pre) (st .store .ensures) (cp .copy .ensures .1),
     )
 
 pub put-spec : {M : Type 1} → statement M
