@@ -12,7 +12,8 @@ use Rattle.rules.specs.Sizes.{setupInRange, domainIn, pageIn, frameIn, maxConte
 use Rattle.rules.specs.Records.{freeContext, openFrame, publicPage, zeroRegisters, domainWhere, frameWhere, isFree, isUnmapped, isPublic, namesNone}
 use Rattle.rules.specs.Sound.{begun, activitySound, contextSound, savedSound, mappingSound, placeSound, untouched, ownedSound, pageSound, namesSound, frameSound, sound}
 use Rattle.rules.specs.Asked.{Limited}
-use Rattle.rules.proofs.Facts.{each, all, passed, all-at, limited, Shaped, shaped}
+use Rattle.rules.proofs.Facts.{limited, Shaped, shaped}
+use Rattle.rules.proofs.Tests.{each, all, passed, passes, all-at, same-bytes}
 use Rattle.rules.specs.declared.Setup.{Setup}
 use Rattle.rules.specs.declared.State.{State}
 use Rattle.rules.specs.declared.Tables.{Tables}
@@ -30,7 +31,7 @@ use Rattle.rules.specs.declared.Place.the-variants.{Public, Clear, Sealed}
 use Rattle.rules.specs.declared.Named.the-variants.{Page}
 use Rattle.core_tables.specs.Words.{Housed}
 use Rattle.core_tables.specs.Image.{maxEntries, stateIn, imageOf, savedWords}
-use Rattle.core_tables.proofs.Images.{same, tell-canonical}
+use Rattle.core_tables.proofs.Images.{tell-canonical}
 use Rattle.core_tables.proofs.Encoding.{Fits, NamedFits, length-image, image-back, is-canonical, Eights, length-saved-words, saved-back}
 use Rattle.core_answer.specs.Handed.{readable}
 
@@ -93,7 +94,7 @@ module _ (s : Setup) (t : Tables) (sizes : Limited s) where
 past-zero : (b : Bool) (r : Registers) → b ≡ false → T (b || sameBytes (r .words) (zeros 8)) → r ≡ zeroRegisters
 unfolding zeros
 past-zero true r e t = let z : _≡_ {A = ℕ} 0 1 = cc in absurd (omega arith)
-past-zero false r e t = let q = same (r .words) (zeros 8) t in λ i. record { words = q i }
+past-zero false r e t = let q = same-bytes (r .words) (zeros 8) (passes _ t) in λ i. record { words = q i }
 
 module _ (s : Setup) (x : State) (ranged : T (setupInRange s)) (ok : T (sound s x)) (eights : Eights (x .saved)) where
   sizes : Limited s

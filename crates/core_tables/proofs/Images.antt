@@ -68,7 +68,7 @@ pub one-image : (v : ℕ) (x y : List ℕ) → length x ≡ imageWords → lengt
 one-image v x y lx ly cx cy e = canonical-image v x lx cx ∙ ap (imageOf v) e ∙ sym (canonical-image v y ly cy)
 
 -- the test
-pub same : (x y : List ℕ) → T (sameBytes x y) → x ≡ y
+same : (x y : List ℕ) → T (sameBytes x y) → x ≡ y
 unfolding sameBytes
 same [] [] t = refl
 same [] (b ∷ y) t = absurd t

@@ -36,6 +36,7 @@ lent-as list = record { ptr = (0, 0); name = 0; now = list }
 
 module _ (g : Given) where
   may-start : (lent : Memory) → MayStart g lent (startedOver g lent)
+  unfolding started
   may-start lent =
       let l = startedOver g lent in
       let supply = lent-as (g .supply) in

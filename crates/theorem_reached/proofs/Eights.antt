@@ -3,7 +3,7 @@ use mathlib.Core.Path.{_≡_, refl, ap, _∙_}
 use mathlib.Core.List.{List, [], _∷_}
 use mathlib.Core.Bool.{Bool, true, false, cond}
 use Prim.Native.Nat.{ℕ, zero, suc}
-use lib.ListN.{length, getD, set, replicate}
+use lib.ListN.{length, getD, set}
 use lib.Dec.{eqb}
 use Rattle.rules.specs.Bytes.{sameBytes, zeros, wordsIn, mapFrom}
 use Rattle.rules.specs.Sizes.{maxContexts}
@@ -12,6 +12,7 @@ use Rattle.rules.specs.Sealing.{Effect, done, failed, andThen, signature, sealP
 use Rattle.rules.specs.Events.{row, ended, spanBytes, storeSpan, cloaked, zeroIfClear, uncloaked, markedDirty, turned, does, ownFrame}
 use Rattle.rules.specs.Answers.{refusal, refused, performed, perform, outset, stepFrom, step, startRefusal, start}
 use Rattle.rules.specs.Runs.{Ask, after}
+use Rattle.rules.proofs.Lists.{getD-fresh}
 use Rattle.rules.specs.declared.Setup.{Setup}
 use Rattle.rules.specs.declared.Tables.{Tables}
 use Rattle.rules.specs.declared.Asid.{Asid}
@@ -149,19 +150,14 @@ step-eights g e new buffer m h = by (eqb (refusal g (outset m) e (length new) (l
     by false = h
 
 -- and the start has them
-getD-zero : (n i : ℕ) → getD (replicate n zeroRegisters) i zeroRegisters ≡ zeroRegisters
-getD-zero zero i = refl
-getD-zero (suc n) zero = refl
-getD-zero (suc n) (suc i) = getD-zero n i
-
 pub start-eights : (g : Given) (frames store : List ℕ) → Eights ((start g frames store) .saved)
 unfolding start
 start-eights g frames store = by (eqb (startRefusal g frames store) 0)
   where
     by : (b : Bool)
         → Eights ((cond b (machine freshState (zeros (length frames)) (zeros (length store))) (machine freshState frames store)) .saved)
-    by true i = ap (λ (r : Registers). length (r .words)) (getD-zero maxContexts i)
-    by false i = ap (λ (r : Registers). length (r .words)) (getD-zero maxContexts i)
+    by true i = ap (λ (r : Registers). length (r .words)) (getD-fresh maxContexts i zeroRegisters)
+    by false i = ap (λ (r : Registers). length (r .words)) (getD-fresh maxContexts i zeroRegisters)
 
 pub after-eights : (g : Given) (asks : List Ask) (m : Machine) → Eights (m .saved) → Eights ((after g m asks) .saved)
 unfolding after
