@@ -9,7 +9,8 @@ use native.Mathlib.Omega.{arith}
 use lib.ListN.{length}
 use lib.Dec.{T, eqb, eqb→eq}
 use Rattle.rules.specs.Bytes.{allOf}
-use Rattle.rules.specs.Sizes.{setupInRange, framesRight, storeRight, supplyRight, maxSize, maxDomains, maxPages, maxContexts, maxFrames, maxSignatures}
+use Rattle.rules.specs.Sizes.{setupInRange, framesRight, storeRight, supplyRight, maxSize, maxDomains, maxPages, maxContexts}
+use Rattle.rules.specs.Sizes.{maxFrames, maxSignatures}
 use Rattle.rules.specs.Records.{machine}
 use Rattle.rules.specs.Sound.{sound, lookable, acceptable}
 use Rattle.rules.specs.Asked.{Limited}

@@ -13,14 +13,14 @@ use Rattle.core_tables.specs.Image as image
 use Rattle.core_answer.specs.Handed.{Handed, handed, left, refuses, stepped, keeps, ends}
 
 -- a lent slice at the call, and from the call to the end
-abbrev pub Lent : Type 0
-Lent = RefT (List ℕ)
+abbrev pub Borrowed : Type 0
+Borrowed = RefT (List ℕ)
 
 abbrev pub Slice : Type 0
-Slice = Both Lent Lent
+Slice = Both Borrowed Borrowed
 
 -- the event is not refused: what each event's function asks
-abbrev pub Granted : Setup → Lent → Lent → Lent → Lent → Lent → Event → Lent → Lent → Type 0
+abbrev pub Granted : Setup → Borrowed → Borrowed → Borrowed → Borrowed → Borrowed → Event → Borrowed → Borrowed → Type 0
 Granted s tables saved frames store supply e new answer =
     refuses (handed s (tables .now) (saved .now) (frames .now) (store .now) (supply .now) e (new .now) (answer .now)) ≡ 0
 

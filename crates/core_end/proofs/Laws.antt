@@ -8,6 +8,7 @@ use native.Mathlib.Numerals.{add-one}
 use native.Mathlib.Omega.{arith}
 use lib.ListN.{length, getD, set, replicate}
 use lib.Seq.{sets}
+use Rattle.rules.specs.Sizes.{maxDomains, maxPages}
 use Rattle.rules.specs.Bytes.{mapFrom}
 
 module _ {A : Type 0} (f : ℕ → A → A) where
@@ -77,5 +78,5 @@ pub sets-more : {A : Type 0} (a : A) (l : List A) (at i : ℕ) → set (sets l a
 sets-more a l at i = rw add-one (sets-suc a l at i)
 
 -- a domain's pages end within the table
-pub slots-fit : (d domains pages : ℕ) → d < domains → domains ≤ 8 → pages ≤ 32 → d * pages + pages ≤ 256
+pub slots-fit : (d domains pages : ℕ) → d < domains → domains ≤ maxDomains → pages ≤ maxPages → d * pages + pages ≤ maxDomains * maxPages
 slots-fit d domains pages h few small = omega (arith, mul-le-mul-right pages h, mul-le-mul few small)

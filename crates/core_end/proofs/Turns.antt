@@ -107,7 +107,8 @@ all-cleared n v d x y i few all =
     up-to-rest (clearedOf d (tablesIn v x .contexts)) zeroRegisters 0 i (savedIn n y)
     (λ j a b.
     let past : j < maxContexts = rw (length-saved n y few) at b in
-    rw (saved-past n j y (omega arith) past) (either (isIn d ((getD (tablesIn v x .contexts) (0 + j) freeContext) .activity)) zeroRegisters))
+    rw (saved-past n j y (omega arith) past)
+    (either (isIn d ((getD (tablesIn v x .contexts) (0 + j) freeContext) .activity)) zeroRegisters))
 
 -- what a frame names is a page of a domain's, and so is what it names once domain d has ended
 names-fit : (v w : ℕ) → 1 ≤ v → NamesFit v (namesIn v w)

@@ -8,6 +8,7 @@ use native.Mathlib.Numerals.{add-one}
 use native.Mathlib.Omega.{arith}
 use lib.ListN.{length, drop, getD, drop-of-length-le}
 use lib.Seq.{drop-cons}
+use Rattle.rules.specs.Sizes.{maxPages, maxSize}
 use Rattle.rules.specs.Bytes.{withPart, zeros}
 use Rattle.rules.specs.Records.{openFrame, namesIn}
 use Rattle.rules.specs.Events.{zeroNamed}
@@ -32,5 +33,5 @@ pub slots-within : (d domains pages size : ℕ) → d < domains → d * (pages *
 slots-within d domains pages size h = omega (arith, mul-le-mul-right (pages * size) h, mul-assoc domains pages size)
 
 -- and are so few that their size is a number of the machine's
-pub slots-small : (pages size : ℕ) → pages ≤ 32 → size ≤ 4096 → pages * size ≤ 131072
+pub slots-small : (pages size : ℕ) → pages ≤ maxPages → size ≤ maxSize → pages * size ≤ maxPages * maxSize
 slots-small pages size few small = omega (arith, mul-le-mul few small)

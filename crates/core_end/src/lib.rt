@@ -65,7 +65,8 @@ fn freed(activity: Activity, d: Asid) -> Activity
 // The contexts that were in domain d become Free.
 fn free_contexts(tables: &mut [u16], d: Asid)
     requires { ⌜ length (now tables) ≡ imageWords ⌝ }
-    ensures { λ _. ⌜ ((v : ℕ) → Put v (now (tables .entry)) (now (tables .exit)) (withContexts (map (freedOf d) (tablesIn v (now (tables .entry)) .contexts)) (tablesIn v (now (tables .entry))))) ⌝ }
+    ensures { λ _. ⌜ ((v : ℕ) → Put v (now (tables .entry)) (now (tables .exit))
+        (withContexts (map (freedOf d) (tablesIn v (now (tables .entry)) .contexts)) (tablesIn v (now (tables .entry))))) ⌝ }
 {
     let mut i = 0;
     while i < Setup::MAX_CONTEXTS {
@@ -78,7 +79,9 @@ fn free_contexts(tables: &mut [u16], d: Asid)
 // Frame i names none, if it named a page of domain d.
 fn open_one(tables: &mut [u16], pages: usize, i: usize, d: Asid)
     requires { ⌜ (length (now tables) ≡ imageWords) × (1 ≤ pages) × (pages ≤ maxPages) × (i < maxFrames) × Canonical pages (now tables) ⌝ }
-    ensures { λ _. ⌜ Put pages (now (tables .entry)) (now (tables .exit)) (setNames i (openedOf d (getD (tablesIn pages (now (tables .entry)) .frames) i openFrame) .names) (tablesIn pages (now (tables .entry)))) ⌝ }
+    ensures { λ _. ⌜ Put pages (now (tables .entry)) (now (tables .exit))
+        (setNames i (openedOf d (getD (tablesIn pages (now (tables .entry)) .frames) i openFrame) .names)
+        (tablesIn pages (now (tables .entry)))) ⌝ }
 {
     let named = core_tables::slot_at(tables, i);
     if names_in(named, pages, d) {
@@ -89,7 +92,8 @@ fn open_one(tables: &mut [u16], pages: usize, i: usize, d: Asid)
 // The frames that named a page of domain d name none.
 fn open_frames(tables: &mut [u16], pages: usize, d: Asid)
     requires { ⌜ (length (now tables) ≡ imageWords) × (1 ≤ pages) × (pages ≤ maxPages) × Canonical pages (now tables) ⌝ }
-    ensures { λ _. ⌜ Put pages (now (tables .entry)) (now (tables .exit)) (withFrames (map (openedOf d) (tablesIn pages (now (tables .entry)) .frames)) (tablesIn pages (now (tables .entry)))) ⌝ }
+    ensures { λ _. ⌜ Put pages (now (tables .entry)) (now (tables .exit))
+        (withFrames (map (openedOf d) (tablesIn pages (now (tables .entry)) .frames)) (tablesIn pages (now (tables .entry)))) ⌝ }
 {
     let mut i = 0;
     while i < Setup::MAX_FRAMES {
@@ -101,7 +105,9 @@ fn open_frames(tables: &mut [u16], pages: usize, d: Asid)
 // Pages first to first + count become Public and unmapped.
 fn publish_pages(tables: &mut [u16], first: usize, count: usize)
     requires { ⌜ (length (now tables) ≡ imageWords) × (first + count ≤ maxEntries) ⌝ }
-    ensures { λ _. ⌜ ((v : ℕ) → Put v (now (tables .entry)) (now (tables .exit)) (withPages (sets (tablesIn v (now (tables .entry)) .pages) first (replicate count publicPage)) (tablesIn v (now (tables .entry))))) ⌝ }
+    ensures { λ _. ⌜ ((v : ℕ) → Put v (now (tables .entry)) (now (tables .exit))
+        (withPages (sets (tablesIn v (now (tables .entry)) .pages) first (replicate count publicPage))
+        (tablesIn v (now (tables .entry))))) ⌝ }
 {
     let page = PageRecord {
         mapping: Mapping::Unmapped,
@@ -117,7 +123,9 @@ fn publish_pages(tables: &mut [u16], first: usize, count: usize)
 // The registers of context i, of n, become zero, if it was in domain d.
 fn clear_one(tables: &[u16], saved: &mut [u64], n: usize, i: usize, d: Asid)
     requires { ⌜ (length (now tables) ≡ imageWords) × (length (now saved) ≡ 8 * n) × (n ≤ maxContexts) × (i < n) ⌝ }
-    ensures { λ _. ⌜ ((v : ℕ) → savedIn n (now (saved .exit)) ≡ set (savedIn n (now (saved .entry))) i (clearedOf d (tablesIn v (now (tables .entry)) .contexts) i (getD (savedIn n (now (saved .entry))) i zeroRegisters))) ⌝ }
+    ensures { λ _. ⌜ ((v : ℕ) → savedIn n (now (saved .exit))
+        ≡ set (savedIn n (now (saved .entry))) i
+        (clearedOf d (tablesIn v (now (tables .entry)) .contexts) i (getD (savedIn n (now (saved .entry))) i zeroRegisters))) ⌝ }
 {
     let activity = core_tables::activity_at(tables, i);
     if is_in(activity, d) {
@@ -128,7 +136,8 @@ fn clear_one(tables: &[u16], saved: &mut [u64], n: usize, i: usize, d: Asid)
 // The registers of the contexts that were in domain d become zero; there are n contexts.
 fn clear_saved(tables: &[u16], saved: &mut [u64], n: usize, d: Asid)
     requires { ⌜ (length (now tables) ≡ imageWords) × (length (now saved) ≡ 8 * n) × (n ≤ maxContexts) ⌝ }
-    ensures { λ _. ⌜ ((v : ℕ) → savedIn n (now (saved .exit)) ≡ mapFrom (clearedOf d (tablesIn v (now (tables .entry)) .contexts)) 0 (savedIn n (now (saved .entry)))) ⌝ }
+    ensures { λ _. ⌜ ((v : ℕ) → savedIn n (now (saved .exit))
+        ≡ mapFrom (clearedOf d (tablesIn v (now (tables .entry)) .contexts)) 0 (savedIn n (now (saved .entry)))) ⌝ }
 {
     let mut i = 0;
     while i < n {
@@ -149,8 +158,11 @@ fn zero_if(so: bool, frames: &mut [u8], size: usize, k: usize)
 
 // Every frame that names a page of domain d becomes zero.
 fn zero_frames(setup: Setup, tables: &[u16], d: Asid, frames: &mut [u8])
-    requires { ⌜ (length (now tables) ≡ imageWords) × (1 ≤ setup .pages) × (setup .pages ≤ maxPages) × (Canonical (setup .pages) (now tables)) × (NamedFit setup d (tablesIn (setup .pages) (now tables) .frames) (length (now frames))) ⌝ }
-    ensures { λ _. ⌜ now (frames .exit) ≡ zeroNamed setup d 0 (tablesIn (setup .pages) (now (tables .entry)) .frames) (now (frames .entry)) ⌝ }
+    requires { ⌜ (length (now tables) ≡ imageWords) × (1 ≤ setup .pages) × (setup .pages ≤ maxPages)
+        × (Canonical (setup .pages) (now tables))
+        × (NamedFit setup d (tablesIn (setup .pages) (now tables) .frames) (length (now frames))) ⌝ }
+    ensures { λ _. ⌜ now (frames .exit) ≡ zeroNamed setup d 0 (tablesIn (setup .pages) (now (tables .entry)) .frames)
+        (now (frames .entry)) ⌝ }
 {
     let mut k = 0;
     while k < Setup::MAX_FRAMES {
@@ -170,7 +182,9 @@ pub fn end(
     d: Asid,
 )
     requires { ⌜ Endable setup d (now tables) (length (now saved)) (length (now frames)) (length (now store)) ⌝ }
-    ensures { λ _. ⌜ Leaves (setup .pages) (now (tables .entry)) (now (tables .exit)) (machine (stateIn setup (now (tables .exit)) (now (saved .exit))) (now (frames .exit)) (now (store .exit))) (ended setup d (machine (stateIn setup (now (tables .entry)) (now (saved .entry))) (now (frames .entry)) (now (store .entry)))) ⌝ }
+    ensures { λ _. ⌜ Leaves (setup .pages) (now (tables .entry)) (now (tables .exit))
+        (machine (stateIn setup (now (tables .exit)) (now (saved .exit))) (now (frames .exit)) (now (store .exit)))
+        (ended setup d (machine (stateIn setup (now (tables .entry)) (now (saved .entry))) (now (frames .entry)) (now (store .entry)))) ⌝ }
 {
     zero_frames(setup, tables, d, frames);
     let slots = setup.pages * setup.size;

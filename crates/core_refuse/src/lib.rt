@@ -14,7 +14,8 @@ use rules::Setup;
 // The number that the event is refused with, or 0. It comes with data of length `new` and an answer buffer of length `room`.
 pub fn refusal(setup: Setup, tables: &[u16], event: Event, new: usize, room: usize) -> u8
     requires { ⌜ Tested setup (now tables) ⌝ }
-    ensures { λ r. ⌜ r ≡ firstOf (checks setup (tablesIn (setup .pages) (now (tables .entry))) event (row setup (tablesIn (setup .pages) (now (tables .entry))) event) new room) ⌝ }
+    ensures { λ r. ⌜ r ≡ firstOf (checks setup (tablesIn (setup .pages) (now (tables .entry))) event
+        (row setup (tablesIn (setup .pages) (now (tables .entry))) event) new room) ⌝ }
 {
     let number = core_refuse_event::by_shape(setup, event, new, room);
     if number != 0 {

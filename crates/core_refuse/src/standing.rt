@@ -2,7 +2,8 @@
 // its function, which reads the few records that the event concerns; end and map, read and write, and leave and trap, ask
 // the same.
 ghost use mathlib.Core.Path.{_≡_};
-ghost use Prim.Native.Nat.{_<_};
+ghost use Prim.Native.Nat.{_≤_, _<_};
+ghost use Rattle.rules.specs.Sizes.{maxSignatures};
 ghost use Rattle.rules.specs.Records.{namesOf};
 ghost use Rattle.rules.specs.Sealing.{takesNamed};
 ghost use Rattle.rules.specs.Answers.{firstOf};
@@ -41,7 +42,7 @@ fn fit(condition: bool, live: bool, mapped: bool) -> u8
 
 // Whether so many signatures are left.
 fn spare(setup: Setup, used: u16, takes: usize) -> u8
-    requires { ⌜ takes < 65536 ⌝ }
+    requires { ⌜ takes ≤ maxSignatures ⌝ }
     ensures { λ r. ⌜ r ≡ firstOf (sealChecks setup used takes) ⌝ }
 {
     if setup.signatures < (used as usize) + takes {
@@ -54,7 +55,8 @@ fn spare(setup: Setup, used: u16, takes: usize) -> u8
 // The signatures that sealing what is Clear in a frame takes.
 fn takes_named(setup: Setup, tables: &[u16], f: Gppn) -> u8
     requires { ⌜ (Tested setup (now tables)) × (f .0 < setup .frames) ⌝ }
-    ensures { λ r. ⌜ r ≡ takesNamed setup (tablesIn (setup .pages) (now (tables .entry))) (namesOf (tablesIn (setup .pages) (now (tables .entry))) f) ⌝ }
+    ensures { λ r. ⌜ r ≡ takesNamed setup (tablesIn (setup .pages) (now (tables .entry)))
+        (namesOf (tablesIn (setup .pages) (now (tables .entry))) f) ⌝ }
 {
     let named = core_tables::slot_at(tables, f.0 as usize);
     if named == 0 {

@@ -20,7 +20,7 @@ use Rattle.rules.specs.declared.Place.the-variants.{Clear, Sealed}
 use Rattle.rules.specs.declared.Named.the-variants.{Page}
 use Rattle.core_tables.specs.Image.{tablesIn, Canonical}
 use Rattle.core_seal.specs.Under.{during}
-use Rattle.core_seal.specs.Asked.{Ready, Sealable, Reached, Matched, Bringable}
+use Rattle.core_seal.specs.Asked.{Signable, Sealable, Unveilable, Matched, Bringable}
 use Rattle.core_seal.specs.declared.Work.{Work}
 use Rattle.core_seal.proofs.Kept.{Kept, seal-kept}
 
@@ -34,7 +34,7 @@ module _ (s : Setup) (t : Tables) (f : Gppn) (ok : Matched s t) (inside : f .0 <
       let c = ok .clear f d v inside n in
       omega (arith, ok .worn d v h k (c .0) (c .1) e)
 
-  pub ready : Ready s t f
+  pub ready : Signable s t f
   unfolding takesNamed takesAt
   ready =
       record {
@@ -65,7 +65,7 @@ module _ (s : Setup) (work : Work) (words frames store supply : List ℕ) (f : G
         subst (λ (n : Machine). Kept s (during s work z words frames store) n h) (sym sealed)
         (seal-kept (given s supply) (during s work z words frames store) h (asked .reached .limited) (asked .matched) inside)
 
-    still-reached : Reached s work′ words′ frames′ store′ supply f d v
+    still-reached : Unveilable s work′ words′ frames′ store′ supply f d v
     still-reached =
         record {
           limited = asked .reached .limited;
@@ -84,7 +84,7 @@ module _ (s : Setup) (work : Work) (words frames store supply : List ℕ) (f : G
         }
 
     pub unveil-asked : (k : ℕ) → placeOf s (tablesIn (s .pages) words′) d v ≡ Sealed k
-        → (Reached s work′ words′ frames′ store′ supply f d v) × (k < s .signatures)
+        → (Unveilable s work′ words′ frames′ store′ supply f d v) × (k < s .signatures)
     unfolding needed
     unveil-asked k e = (
       still-reached,

@@ -17,7 +17,7 @@ use Rattle.rules.specs.declared.Setup.{Setup}
 use Rattle.core_tables.specs.Image.{imageWords, tablesIn, Canonical}
 use Rattle.core_seal.specs.Under.{during}
 use Rattle.rules.specs.Asked.{Agreed}
-use Rattle.core_seal.specs.Asked.{Lent, Matched, Sealable, Reached, Bringable}
+use Rattle.core_seal.specs.Asked.{Lent, Matched, Sealable, Unveilable, Bringable}
 use Rattle.core_seal.specs.declared.Work.{Work}
 use Rattle.core_seal.proofs.Enough.{ready}
 
@@ -33,15 +33,26 @@ matched s m shape a =
     }
 
 -- the work on an accepted machine, and a frame of the setup's
-module _ (g : Given) (work : Work) (z : List Registers) (words frames store : List ℕ) (long : length words ≡ imageWords) (canon : Canonical (g .setup .pages) words) (f : Gppn)
+module _ (g : Given) (work : Work) (z : List Registers) (words frames store : List ℕ) (long : length words ≡ imageWords)
+    (canon : Canonical (g .setup .pages) words) (f : Gppn)
     (ok : Accepted g (during (g .setup) work z words frames store)) (inside : f .0 < g .setup .frames) where
   lent : Lent (g .setup) words frames store (g .supply)
-  lent = record { words-long = long; canonical = canon; some-pages = ok .looks .sizes .some-pages; frames-long = ok .looks .frames; store-long = ok .looks .store; supply-long = ok .supply }
+  lent =
+      record {
+        words-long = long;
+        canonical = canon;
+        some-pages = ok .looks .sizes .some-pages;
+        frames-long = ok .looks .frames;
+        store-long = ok .looks .store;
+        supply-long = ok .supply;
+      }
 
   matching : Matched (g .setup) (tablesIn (g .setup .pages) words)
   matching = matched (g .setup) (during (g .setup) work z words frames store) (ok .looks .shapes) (ok .looks .agrees)
 
-  pub sealable : tablesIn (g .setup .pages) words .used + needed (g .setup) (tablesIn (g .setup .pages) words) (f ∷ []) ≤ g .setup .signatures → work .seals < 255
+  pub sealable : tablesIn (g .setup .pages) words .used + needed (g .setup) (tablesIn (g .setup .pages) words) (f ∷ [])
+      ≤ g .setup .signatures
+      → work .seals < 255
       → Sealable (g .setup) work words frames store (g .supply) f
   unfolding needed
   sealable enough few =
@@ -55,7 +66,7 @@ module _ (g : Given) (work : Work) (z : List Registers) (words frames store : Li
 
   -- a page of the setup's
   module _ (d : Asid) (v : Gvpn) (hd : d .0 < g .setup .domains) (hv : v .0 < g .setup .pages) (one : work .unveils < 255) where
-    pub reached : Reached (g .setup) work words frames store (g .supply) f d v
+    pub reached : Unveilable (g .setup) work words frames store (g .supply) f d v
     reached =
         record {
           limited = ok .looks .sizes;
@@ -66,10 +77,12 @@ module _ (g : Given) (work : Work) (z : List Registers) (words frames store : Li
           counts = one;
         }
 
-    pub bringable : tablesIn (g .setup .pages) words .used + needed (g .setup) (tablesIn (g .setup .pages) words) (sealedFirst f (placeOf (g .setup) (tablesIn (g .setup .pages) words) d v))
+    pub bringable : tablesIn (g .setup .pages) words .used + needed (g .setup) (tablesIn (g .setup .pages) words)
+        (sealedFirst f (placeOf (g .setup) (tablesIn (g .setup .pages) words) d v))
         ≤ g .setup .signatures
         → work .seals + maxSeals < 256
-        → Bringable (g .setup) work words frames store (g .supply) f d v (sealedFirst f (placeOf (g .setup) (tablesIn (g .setup .pages) words) d v))
+        → Bringable (g .setup) work words frames store (g .supply) f d v
+        (sealedFirst f (placeOf (g .setup) (tablesIn (g .setup .pages) words) d v))
     bringable enough few =
         record {
           reached = reached;

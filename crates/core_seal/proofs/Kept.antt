@@ -1,5 +1,5 @@
--- What a seal keeps: the records still agree, the lent memory has its lengths, the count of used signatures has grown by what the seal took, and every other
--- frame's page takes what it took before. So a second frame can be sealed after a first.
+-- What a seal keeps: the records still agree, the lent memory has its lengths, the count of used signatures has grown by what the seal
+-- took, and every other frame's page takes what it took before. So a second frame can be sealed after a first.
 use mathlib.Core.Path.{_≡_, refl, sym, ap, subst, _∙_}
 use mathlib.Core.Logic.{_≢_, _⊎_, inl, inr, ⊎-elim}
 use Prim.Native.Nat.{ℕ, _+_, _≤_, _<_}

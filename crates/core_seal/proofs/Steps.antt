@@ -12,7 +12,8 @@ use borrow.Author.Tests.{eqb-false}
 use Rattle.rules.specs.Bytes.{part, withPart, sameBytes}
 use Rattle.rules.specs.Sizes.{pageNumber}
 use Rattle.rules.specs.Records.{Given, Machine, given, publicPage, placeOf, namesOf}
-use Rattle.rules.specs.Sealing.{sealedWith, takes, signature, sealedTables, sealPage, sealAt, sealNamed, seal, unveiledTables, unveiled, unveil, done, failed}
+use Rattle.rules.specs.Sealing.{sealedWith, takes, signature, sealedTables, sealPage, sealAt, sealNamed, seal, unveiledTables}
+use Rattle.rules.specs.Sealing.{unveiled, unveil, done, failed}
 use Rattle.rules.proofs.Place.{the-type}
 use Rattle.rules.specs.declared.Setup.{Setup}
 use Rattle.rules.specs.declared.Mapping.{Mapping}
@@ -69,7 +70,8 @@ module _ (s : Setup) (supply x frames store : List ℕ) (work : Work) (f : Gppn)
       → frames′ ≡ withPart (s .size) (f .0) (part (s .size) k supply) frames
       → store′ ≡ withPart (s .size) slot (part (s .size) (f .0) frames) store
       → used ≡ tablesIn (s .pages) x .used + takes w
-      → Put (s .pages) x y (setNames (f .0) Nothing (setPage slot (record { mapping = mappingAt slot; place = Sealed k }) (tablesIn (s .pages) x)))
+      → Put (s .pages) x y (setNames (f .0) Nothing
+      (setPage slot (record { mapping = mappingAt slot; place = Sealed k }) (tablesIn (s .pages) x)))
       → Put (s .pages) y z (setUsed used (tablesIn (s .pages) y))
       → during s (record { seals = work .seals + 1; unveils = work .unveils }) saved z frames′ store′
       ≡ sealAt (given s supply) f d v (placeOf s (tablesIn (s .pages) x) d v) (during s work saved x frames store)
@@ -80,7 +82,8 @@ module _ (s : Setup) (supply x frames store : List ℕ) (work : Work) (f : Gppn)
       (eb : b ≡ sameBytes (part (s .size) (f .0) frames) (part (s .size) k supply))
       (ef : frames′ ≡ cond b (withPart (s .size) (f .0) (part (s .size) slot store) frames) frames) where
     pub unveil-done : {y : List ℕ} → b ≡ true
-        → Put (s .pages) x y (setNames (f .0) (Page d v) (setPage slot (record { mapping = mappingAt slot; place = Clear f (Clean k) }) (tablesIn (s .pages) x)))
+        → Put (s .pages) x y (setNames (f .0) (Page d v)
+        (setPage slot (record { mapping = mappingAt slot; place = Clear f (Clean k) }) (tablesIn (s .pages) x)))
         → effect s (record { work = record { seals = work .seals; unveils = work .unveils + 1 }; number = 0 }) saved y frames′ store
         ≡ unveil (given s supply) f d v k (during s work saved x frames store)
     unfolding unveil unveiled unveiledTables signature done

@@ -31,7 +31,7 @@ pub record Lent (s : Setup) (words frames store supply : List ℕ) : Type 0 wher
   pub supply-long : length supply ≡ s .signatures * s .size
 
 -- the page that frame f names is one of the setup's, and there is a signature to seal it with
-pub record Ready (s : Setup) (t : Tables) (f : Gppn) : Type 0 where
+pub record Signable (s : Setup) (t : Tables) (f : Gppn) : Type 0 where
   pub domain : (d : Asid) (v : Gvpn) → namesOf t f ≡ Page d v → d .0 < s .domains
   pub page : (d : Asid) (v : Gvpn) → namesOf t f ≡ Page d v → v .0 < s .pages
   pub signature : (d : Asid) (v : Gvpn) (h : Gppn) (w : Wear) → namesOf t f ≡ Page d v → placeOf s t d v ≡ Clear h w
@@ -41,11 +41,11 @@ pub record Sealable (s : Setup) (work : Work) (words frames store supply : List 
   pub limited : Limited s
   pub lent : Lent s words frames store supply
   pub frame : f .0 < s .frames
-  pub ready : Ready s (tablesIn (s .pages) words) f
+  pub ready : Signable s (tablesIn (s .pages) words) f
   pub counts : work .seals < 255
 
 -- what unveiling at frame f asks beside a signature of the setup's
-pub record Reached (s : Setup) (work : Work) (words frames store supply : List ℕ) (f : Gppn) (d : Asid) (v : Gvpn) : Type 0 where
+pub record Unveilable (s : Setup) (work : Work) (words frames store supply : List ℕ) (f : Gppn) (d : Asid) (v : Gvpn) : Type 0 where
   pub limited : Limited s
   pub lent : Lent s words frames store supply
   pub frame : f .0 < s .frames
@@ -71,7 +71,7 @@ pub record Matched (s : Setup) (t : Tables) : Type 0 where
 -- what sealing the frames first, and then unveiling at frame f, asks
 pub record Bringable (s : Setup) (work : Work) (words frames store supply : List ℕ) (f : Gppn) (d : Asid) (v : Gvpn)
     (first : List Gppn) : Type 0 where
-  pub reached : Reached s work words frames store supply f d v
+  pub reached : Unveilable s work words frames store supply f d v
   pub matched : Matched s (tablesIn (s .pages) words)
   pub enough : tablesIn (s .pages) words .used + needed s (tablesIn (s .pages) words) first ≤ s .signatures
   pub counts : work .seals + length first < 256

@@ -8,7 +8,7 @@ ghost use Rattle.rules.specs.Records.{given, placeOf};
 ghost use Rattle.rules.specs.Sealing.{seal, sealAll, unveil, sealedFirst, bringIn};
 ghost use Rattle.core_seal.specs.Under.{during, effect, Leaves};
 ghost use Rattle.core_tables.specs.Image.{tablesIn};
-ghost use Rattle.core_seal.specs.Asked.{Sealable, Reached, Bringable};
+ghost use Rattle.core_seal.specs.Asked.{Sealable, Unveilable, Bringable};
 use core_seal_bytes::seal_bytes;
 use core_seal_bytes::sealed_with;
 use core_seal_bytes::unveil_bytes;
@@ -46,7 +46,10 @@ pub fn seal(
     f: Gppn,
 ) -> Work
     requires { ⌜ Sealable setup work (now tables) (now frames) (now store) (now supply) f ⌝ }
-    ensures { λ r. ⌜ ((z : List Registers) → Leaves (setup .pages) (now (tables .entry)) (now (tables .exit)) (during setup r z (now (tables .exit)) (now (frames .exit)) (now (store .exit))) (seal (given setup (now (supply .entry))) f (during setup work z (now (tables .entry)) (now (frames .entry)) (now (store .entry))))) ⌝ }
+    ensures { λ r. ⌜ ((z : List Registers) → Leaves (setup .pages) (now (tables .entry)) (now (tables .exit))
+        (during setup r z (now (tables .exit)) (now (frames .exit)) (now (store .exit)))
+        (seal (given setup (now (supply .entry))) f
+        (during setup work z (now (tables .entry)) (now (frames .entry)) (now (store .entry))))) ⌝ }
 {
     let frame = f.0 as usize;
     let named = core_tables::slot_at(tables, frame);
@@ -89,8 +92,11 @@ pub fn unveil(
     v: Gvpn,
     k: u16,
 ) -> Brought
-    requires { ⌜ (Reached setup work (now tables) (now frames) (now store) (now supply) f d v) × (k < setup .signatures) ⌝ }
-    ensures { λ r. ⌜ ((z : List Registers) → Leaves (setup .pages) (now (tables .entry)) (now (tables .exit)) (effect setup r z (now (tables .exit)) (now (frames .exit)) (now (store .entry))) (unveil (given setup (now (supply .entry))) f d v k (during setup work z (now (tables .entry)) (now (frames .entry)) (now (store .entry))))) ⌝ }
+    requires { ⌜ (Unveilable setup work (now tables) (now frames) (now store) (now supply) f d v) × (k < setup .signatures) ⌝ }
+    ensures { λ r. ⌜ ((z : List Registers) → Leaves (setup .pages) (now (tables .entry)) (now (tables .exit))
+        (effect setup r z (now (tables .exit)) (now (frames .exit)) (now (store .entry)))
+        (unveil (given setup (now (supply .entry))) f d v k
+        (during setup work z (now (tables .entry)) (now (frames .entry)) (now (store .entry))))) ⌝ }
 {
     let slot = setup.page_number(d, v);
     let frame = f.0 as usize;
@@ -132,7 +138,11 @@ fn seal_and_unveil(
     v: Gvpn,
 ) -> Brought
     requires { ⌜ Bringable setup work (now tables) (now frames) (now store) (now supply) f d v (f ∷ []) ⌝ }
-    ensures { λ r. ⌜ ((z : List Registers) → Leaves (setup .pages) (now (tables .entry)) (now (tables .exit)) (effect setup r z (now (tables .exit)) (now (frames .exit)) (now (store .exit))) (bringIn (given setup (now (supply .entry))) f d v (seal (given setup (now (supply .entry))) f (during setup work z (now (tables .entry)) (now (frames .entry)) (now (store .entry)))))) ⌝ }
+    ensures { λ r. ⌜ ((z : List Registers) → Leaves (setup .pages) (now (tables .entry)) (now (tables .exit))
+        (effect setup r z (now (tables .exit)) (now (frames .exit)) (now (store .exit)))
+        (bringIn (given setup (now (supply .entry))) f d v
+        (seal (given setup (now (supply .entry))) f
+        (during setup work z (now (tables .entry)) (now (frames .entry)) (now (store .entry)))))) ⌝ }
 {
     let sealed = seal(setup, work, tables, frames, store, supply, f);
     let slot = setup.page_number(d, v);
@@ -159,8 +169,13 @@ pub fn bring_in(
     d: Asid,
     v: Gvpn,
 ) -> Brought
-    requires { ⌜ Bringable setup work (now tables) (now frames) (now store) (now supply) f d v (sealedFirst f (placeOf setup (tablesIn (setup .pages) (now tables)) d v)) ⌝ }
-    ensures { λ r. ⌜ ((z : List Registers) → Leaves (setup .pages) (now (tables .entry)) (now (tables .exit)) (effect setup r z (now (tables .exit)) (now (frames .exit)) (now (store .exit))) (bringIn (given setup (now (supply .entry))) f d v (sealAll (given setup (now (supply .entry))) (sealedFirst f (placeOf setup (tablesIn (setup .pages) (now (tables .entry))) d v)) (during setup work z (now (tables .entry)) (now (frames .entry)) (now (store .entry)))))) ⌝ }
+    requires { ⌜ Bringable setup work (now tables) (now frames) (now store) (now supply) f d v
+        (sealedFirst f (placeOf setup (tablesIn (setup .pages) (now tables)) d v)) ⌝ }
+    ensures { λ r. ⌜ ((z : List Registers) → Leaves (setup .pages) (now (tables .entry)) (now (tables .exit))
+        (effect setup r z (now (tables .exit)) (now (frames .exit)) (now (store .exit)))
+        (bringIn (given setup (now (supply .entry))) f d v
+        (sealAll (given setup (now (supply .entry))) (sealedFirst f (placeOf setup (tablesIn (setup .pages) (now (tables .entry))) d v))
+        (during setup work z (now (tables .entry)) (now (frames .entry)) (now (store .entry)))))) ⌝ }
 {
     let slot = setup.page_number(d, v);
     let place = core_tables::place_at(tables, slot);

@@ -2,6 +2,7 @@
 ghost use mathlib.Core.Path.{_≡_};
 ghost use Prim.Native.Nat.{_+_, _*_, _<_, _≤_};
 ghost use lib.ListN.{length};
+ghost use Rattle.rules.specs.Sizes.{maxSignatures};
 ghost use Rattle.rules.specs.Sealing.{sealedWith, takes};
 ghost use Rattle.core_seal_bytes.specs.Moved.{SealedBytes, UnveiledBytes};
 use rules::Wear;
@@ -18,7 +19,7 @@ pub fn sealed_with(used: u16, wear: Wear) -> u16
 
 // The count of used signatures after it.
 pub fn used_after(used: u16, wear: Wear) -> u16
-    requires { ⌜ sealedWith used wear < 65535 ⌝ }
+    requires { ⌜ sealedWith used wear < maxSignatures ⌝ }
     ensures { λ r. ⌜ r ≡ used + takes wear ⌝ }
 {
     match wear {
@@ -37,8 +38,10 @@ pub fn seal_bytes(
     slot: usize,
     k: usize,
 )
-    requires { ⌜ (f * size + size ≤ length (now frames)) × (slot * size + size ≤ length (now store)) × (k * size + size ≤ length (now supply)) ⌝ }
-    ensures { λ _. ⌜ SealedBytes size f slot k (now (supply .entry)) (now (frames .entry)) (now (store .entry)) (now (frames .exit)) (now (store .exit)) ⌝ }
+    requires { ⌜ (f * size + size ≤ length (now frames)) × (slot * size + size ≤ length (now store))
+        × (k * size + size ≤ length (now supply)) ⌝ }
+    ensures { λ _. ⌜ SealedBytes size f slot k (now (supply .entry)) (now (frames .entry)) (now (store .entry)) (now (frames .exit))
+        (now (store .exit)) ⌝ }
 {
     core_bytes::copy_page(store, size, slot, core_bytes::page(frames, size, f));
     core_bytes::copy_page(frames, size, f, core_bytes::page(supply, size, k));
@@ -54,7 +57,8 @@ pub fn unveil_bytes(
     slot: usize,
     k: usize,
 ) -> bool
-    requires { ⌜ (f * size + size ≤ length (now frames)) × (slot * size + size ≤ length (now store)) × (k * size + size ≤ length (now supply)) ⌝ }
+    requires { ⌜ (f * size + size ≤ length (now frames)) × (slot * size + size ≤ length (now store))
+        × (k * size + size ≤ length (now supply)) ⌝ }
     ensures { λ r. ⌜ UnveiledBytes size f slot k (now (supply .entry)) (now (store .entry)) (now (frames .entry)) r (now (frames .exit)) ⌝ }
 {
     let start = k * size;

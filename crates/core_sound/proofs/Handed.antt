@@ -22,7 +22,8 @@ use Rattle.core_sound.specs.Told.{Right}
 use Rattle.core_sound.proofs.Room.{Room}
 use Rattle.core_sound.proofs.Choices.{if-zero, if-some, zero-nor, if-within, if-past, zero-told, first-true, second-true}
 use Rattle.core_sound.proofs.Decoded.{life-empty, clear-test, none-test, names-sound}
-use Rattle.core_sound.proofs.HandedPages.{Sounds, domain-here, context-past, life-there, life-here, none-here, page-past, mapped-few, sign-few, home-told, domains-right, contexts-right}
+use Rattle.core_sound.proofs.HandedPages.{Sounds, domain-here, context-past, life-there, life-here, none-here, page-past}
+use Rattle.core_sound.proofs.HandedPages.{mapped-few, sign-few, home-told, domains-right, contexts-right}
 
 module _ (s : Setup) (x : List ℕ) (room : Room s) (canon : Canonical (s .pages) x) (sounds : Sounds s x) where
   -- frames
@@ -39,7 +40,9 @@ module _ (s : Setup) (x : List ℕ) (room : Room s) (canon : Canonical (s .pages
 
     names-told : T (ltb ((wordAt x (framesAt + f) - 1) / s .pages % 256) (s .domains)
         && (ltb ((wordAt x (framesAt + f) - 1) % s .pages) (s .pages)
-        && (isClearIn (record { 0 = f }) (placeOf s (tablesIn (s .pages) x) (record { 0 = (wordAt x (framesAt + f) - 1) / s .pages % 256 }) (record { 0 = (wordAt x (framesAt + f) - 1) % s .pages })) && true)))
+        && (isClearIn (record { 0 = f })
+        (placeOf s (tablesIn (s .pages) x) (record { 0 = (wordAt x (framesAt + f) - 1) / s .pages % 256 })
+        (record { 0 = (wordAt x (framesAt + f) - 1) % s .pages })) && true)))
     unfolding frameSound
     names-told =
         if-some (wordAt x (framesAt + f)) true _
@@ -55,12 +58,15 @@ module _ (s : Setup) (x : List ℕ) (room : Room s) (canon : Canonical (s .pages
 
     clear-here : T (isClearIn (record { 0 = f }) (placeIn (wordAt x (homeAt + k)) (wordAt x (signAt + k))))
     clear-here =
-        let place : placeOf s (tablesIn (s .pages) x) (record { 0 = (wordAt x (framesAt + f) - 1) / s .pages % 256 }) (record { 0 = (wordAt x (framesAt + f) - 1) % s .pages })
+        let place : placeOf s (tablesIn (s .pages) x) (record { 0 = (wordAt x (framesAt + f) - 1) / s .pages % 256 })
+        (record { 0 = (wordAt x (framesAt + f) - 1) % s .pages })
         ≡ placeIn (wordAt x (homeAt + k)) (wordAt x (signAt + k)) =
         ap (λ (n : ℕ). (getD (tablesIn (s .pages) x .pages) n publicPage) .place) number
         ∙ ap (λ (r : PageRecord). r .place) (page-there (s .pages) x k (omega (arith, number-few, room .all))) in
         rw place at
-        (first-true (isClearIn (record { 0 = f }) (placeOf s (tablesIn (s .pages) x) (record { 0 = (wordAt x (framesAt + f) - 1) / s .pages % 256 }) (record { 0 = (wordAt x (framesAt + f) - 1) % s .pages }))) true
+        (first-true (isClearIn (record { 0 = f })
+        (placeOf s (tablesIn (s .pages) x) (record { 0 = (wordAt x (framesAt + f) - 1) / s .pages % 256 })
+        (record { 0 = (wordAt x (framesAt + f) - 1) % s .pages }))) true
         (second-true (ltb ((wordAt x (framesAt + f) - 1) % s .pages) (s .pages)) _
         (second-true (ltb ((wordAt x (framesAt + f) - 1) / s .pages % 256) (s .domains)) _ names-told)))
 
@@ -103,11 +109,17 @@ module _ (s : Setup) (x : List ℕ) (room : Room s) (canon : Canonical (s .pages
         by (no q) = omega (arith, (context-past s x room canon sounds) i (omega arith) h)
 
     bare-page : (i : ℕ) → i < s .pages
-        → (wordAt x (mappedAt + (d * s .pages + i)) ≡ 0) × (wordAt x (homeAt + (d * s .pages + i)) ≡ 0) × (wordAt x (signAt + (d * s .pages + i)) ≡ 0)
+        → (wordAt x (mappedAt + (d * s .pages + i)) ≡ 0) × (wordAt x (homeAt + (d * s .pages + i)) ≡ 0)
+        × (wordAt x (signAt + (d * s .pages + i)) ≡ 0)
     bare-page i h =
         let own : (d * s .pages + i) / s .pages ≡ d = digits-div d h in
         let within : d * s .pages + i < s .domains * s .pages = digits-lt inside h in
-        let t = rw (own, (life-there s x room canon sounds) (record { 0 = d }) (omega (arith, room .domains)), life-empty (wordAt x (domainsAt + d))) at ((life-here s x room canon sounds) (d * s .pages + i) within) in
+        let t = rw (
+          own,
+          (life-there s x room canon sounds) (record { 0 = d }) (omega (arith, room .domains)),
+          life-empty
+              (wordAt x (domainsAt + d)),
+        ) at ((life-here s x room canon sounds) (d * s .pages + i) within) in
         (none-here s x room canon sounds) (d * s .pages + i) (zero-nor (wordAt x (domainsAt + d)) _ t e)
 
   pub all-right : Right s x

@@ -16,13 +16,15 @@ use Rattle.rules.specs.declared.Asid.{Asid}
 use Rattle.rules.specs.declared.DomainRecord.{DomainRecord}
 use Rattle.rules.specs.declared.FrameRecord.{FrameRecord}
 use Rattle.core_tables.specs.Words.{lifeIn, mappingIn, placeIn}
-use Rattle.core_tables.specs.Image.{domainsAt, contextsAt, framesAt, mappedAt, homeAt, signAt, usedAt, maxEntries, wordAt, domainAt, contextAt, frameAt, pageAt, tablesIn, Canonical}
+use Rattle.core_tables.specs.Image.{domainsAt, contextsAt, framesAt, mappedAt, homeAt, signAt, usedAt, maxEntries, wordAt}
+use Rattle.core_tables.specs.Image.{domainAt, contextAt, frameAt, pageAt, tablesIn, Canonical}
 use Rattle.core_tables.proofs.Ranges.{life-small, mapping-small, home-small, some-acts, some-names}
 use Rattle.core_tables.proofs.Reading.{domain-there, frame-there}
 use Rattle.core_sound.specs.Told.{Section}
 use Rattle.core_sound.proofs.Room.{Room}
 use Rattle.core_sound.proofs.Choices.{if-zero, if-some, some-or, if-within, if-past, past-or, zero-told, first-true, second-true}
-use Rattle.core_sound.proofs.Decoded.{life-empty, domainHere, context-free, context-sound, mapping-sound, untouched-test, place-sound, page-test}
+use Rattle.core_sound.proofs.Decoded.{life-empty, domainHere, context-free, context-sound, mapping-sound, untouched-test}
+use Rattle.core_sound.proofs.Decoded.{place-sound, page-test}
 
 -- the records of the words, each sound
 pub record Sounds (s : Setup) (x : List ℕ) : Type 0 where
@@ -65,9 +67,15 @@ module _ (s : Setup) (x : List ℕ) (room : Room s) (canon : Canonical (s .pages
   unfolding begun allOf domainIn
   domain-here i h ne =
       let t = begun-here i h ne in
-      let few : (wordAt x (contextsAt + i) - 1) / 3 % 256 < s .domains = ltb→lt _ _ (first-true (ltb ((wordAt x (contextsAt + i) - 1) / 3 % 256) (s .domains)) _ t) in
-      let lives = first-true (not (isEmpty (lifeOf (tablesIn (s .pages) x) (domainHere (wordAt x (contextsAt + i)))))) true (second-true (ltb ((wordAt x (contextsAt + i) - 1) / 3 % 256) (s .domains)) _ t) in
-      let lively = rw (life-there (domainHere (wordAt x (contextsAt + i))) (omega (arith, room .domains)), life-empty (wordAt x (domainsAt + (wordAt x (contextsAt + i) - 1) / 3 % 256))) at lives in
+      let few : (wordAt x (contextsAt + i) - 1) / 3 % 256 < s .domains = ltb→lt _ _
+      (first-true (ltb ((wordAt x (contextsAt + i) - 1) / 3 % 256) (s .domains)) _ t) in
+      let lives = first-true (not (isEmpty (lifeOf (tablesIn (s .pages) x) (domainHere (wordAt x (contextsAt + i)))))) true
+      (second-true (ltb ((wordAt x (contextsAt + i) - 1) / 3 % 256) (s .domains)) _ t) in
+      let lively = rw (
+        life-there (domainHere (wordAt x (contextsAt + i))) (omega (arith, room .domains)),
+        life-empty
+            (wordAt x (domainsAt + (wordAt x (contextsAt + i) - 1) / 3 % 256)),
+      ) at lives in
       (few, λ e. rw (eq-eqb _ 0 e) at lively)
 
   pub context-past : (i : ℕ) → s .contexts ≤ i → i < maxContexts → wordAt x (contextsAt + i) ≡ 0
@@ -97,7 +105,8 @@ module _ (s : Setup) (x : List ℕ) (room : Room s) (canon : Canonical (s .pages
         → (wordAt x (mappedAt + i) ≡ 0) × (wordAt x (homeAt + i) ≡ 0) × (wordAt x (signAt + i) ≡ 0)
     none-here t =
         let z = rw (untouched-test (wordAt x (mappedAt + i)) (wordAt x (homeAt + i)) (wordAt x (signAt + i))) at t in
-        let rest = first-true (eqb (wordAt x (homeAt + i)) 0 && eqb (wordAt x (signAt + i)) 0) true (second-true (eqb (wordAt x (mappedAt + i)) 0) _ z) in (
+        let rest = first-true (eqb (wordAt x (homeAt + i)) 0 && eqb (wordAt x (signAt + i)) 0) true
+        (second-true (eqb (wordAt x (mappedAt + i)) 0) _ z) in (
           zero-told _ (first-true (eqb (wordAt x (mappedAt + i)) 0) _ z),
           zero-told _ (first-true (eqb (wordAt x (homeAt + i)) 0) _ rest),
           zero-told _ (second-true (eqb (wordAt x (homeAt + i)) 0) _ rest),
@@ -123,33 +132,40 @@ module _ (s : Setup) (x : List ℕ) (room : Room s) (canon : Canonical (s .pages
     unfolding ownedSound allOf
     mapping-here = first-true (mappingSound s (mappingIn (wordAt x (mappedAt + i)))) _ owned-here
 
-    place-here : T (placeSound s (tablesIn (s .pages) x) (record { 0 = i / s .pages }) (record { 0 = i % s .pages }) (placeIn (wordAt x (homeAt + i)) (wordAt x (signAt + i))))
+    place-here : T (placeSound s (tablesIn (s .pages) x) (record { 0 = i / s .pages }) (record { 0 = i % s .pages })
+        (placeIn (wordAt x (homeAt + i)) (wordAt x (signAt + i))))
     unfolding ownedSound allOf
     place-here =
-        first-true (placeSound s (tablesIn (s .pages) x) (record { 0 = i / s .pages }) (record { 0 = i % s .pages }) (placeIn (wordAt x (homeAt + i)) (wordAt x (signAt + i)))) _
+        first-true (placeSound s (tablesIn (s .pages) x) (record { 0 = i / s .pages }) (record { 0 = i % s .pages })
+        (placeIn (wordAt x (homeAt + i)) (wordAt x (signAt + i)))) _
         (second-true (mappingSound s (mappingIn (wordAt x (mappedAt + i)))) _ owned-here)
 
     pub life-here : T (not (isEmpty (lifeOf (tablesIn (s .pages) x) (record { 0 = i / s .pages }))) || untouched (pageAt x i))
     unfolding ownedSound allOf
     life-here =
         first-true (not (isEmpty (lifeOf (tablesIn (s .pages) x) (record { 0 = i / s .pages }))) || untouched (pageAt x i)) true
-        (second-true (placeSound s (tablesIn (s .pages) x) (record { 0 = i / s .pages }) (record { 0 = i % s .pages }) (placeIn (wordAt x (homeAt + i)) (wordAt x (signAt + i)))) _
+        (second-true (placeSound s (tablesIn (s .pages) x) (record { 0 = i / s .pages }) (record { 0 = i % s .pages })
+        (placeIn (wordAt x (homeAt + i)) (wordAt x (signAt + i)))) _
         (second-true (mappingSound s (mappingIn (wordAt x (mappedAt + i)))) _ owned-here))
 
     pub mapped-few : wordAt x (mappedAt + i) ≤ s .frames
     mapped-few =
         small (wordAt x (mappedAt + i)) (s .frames) (λ ne.
-        let few : (wordAt x (mappedAt + i) - 1) % 256 < s .frames = ltb→lt _ _ (some-or (wordAt x (mappedAt + i)) _ (rw (mapping-sound s (wordAt x (mappedAt + i))) at mapping-here) ne) in
+        let few : (wordAt x (mappedAt + i) - 1) % 256 < s .frames = ltb→lt _ _
+        (some-or (wordAt x (mappedAt + i)) _ (rw (mapping-sound s (wordAt x (mappedAt + i))) at mapping-here) ne) in
         omega (arith, mapping-small _ (canon .mapped i here)))
 
     -- what the test of the place says
-    place-told : T (cond (eqb (wordAt x (homeAt + i)) 0) (eqb (wordAt x (signAt + i)) 0 || ltb (wordAt x (signAt + i) - 1) (wordAt x usedAt))
+    place-told : T (cond (eqb (wordAt x (homeAt + i)) 0)
+        (eqb (wordAt x (signAt + i)) 0 || ltb (wordAt x (signAt + i) - 1) (wordAt x usedAt))
         (ltb ((wordAt x (homeAt + i) - 1) % 256) (s .frames)
-        && (namesPage (record { 0 = i / s .pages }) (record { 0 = i % s .pages }) (namesOf (tablesIn (s .pages) x) (record { 0 = (wordAt x (homeAt + i) - 1) % 256 }))
+        && (namesPage (record { 0 = i / s .pages }) (record { 0 = i % s .pages })
+        (namesOf (tablesIn (s .pages) x) (record { 0 = (wordAt x (homeAt + i) - 1) % 256 }))
         && ((eqb (wordAt x (signAt + i)) 0 || ltb (wordAt x (signAt + i) - 1) (wordAt x usedAt)) && true))))
     unfolding tablesIn
     place-told =
-        rw (place-sound s (tablesIn (s .pages) x) (record { 0 = i / s .pages }) (record { 0 = i % s .pages }) (wordAt x (homeAt + i)) (wordAt x (signAt + i))) at place-here
+        rw (place-sound s (tablesIn (s .pages) x) (record { 0 = i / s .pages }) (record { 0 = i % s .pages }) (wordAt x (homeAt + i))
+        (wordAt x (signAt + i))) at place-here
 
     sign-told : T (eqb (wordAt x (signAt + i)) 0 || ltb (wordAt x (signAt + i) - 1) (wordAt x usedAt))
     sign-told = by (wordAt x (homeAt + i)) refl
@@ -158,24 +174,31 @@ module _ (s : Setup) (x : List ℕ) (room : Room s) (canon : Canonical (s .pages
         by zero e = if-zero (wordAt x (homeAt + i)) _ _ place-told e
         by (suc w) e =
             first-true (eqb (wordAt x (signAt + i)) 0 || ltb (wordAt x (signAt + i) - 1) (wordAt x usedAt)) true
-            (second-true (namesPage (record { 0 = i / s .pages }) (record { 0 = i % s .pages }) (namesOf (tablesIn (s .pages) x) (record { 0 = (wordAt x (homeAt + i) - 1) % 256 }))) _
-            (second-true (ltb ((wordAt x (homeAt + i) - 1) % 256) (s .frames)) _ (if-some (wordAt x (homeAt + i)) _ _ place-told (λ z. omega arith))))
+            (second-true (namesPage (record { 0 = i / s .pages }) (record { 0 = i % s .pages })
+            (namesOf (tablesIn (s .pages) x) (record { 0 = (wordAt x (homeAt + i) - 1) % 256 }))) _
+            (second-true (ltb ((wordAt x (homeAt + i) - 1) % 256) (s .frames)) _
+            (if-some (wordAt x (homeAt + i)) _ _ place-told (λ z. omega arith))))
 
     pub sign-few : wordAt x (signAt + i) ≤ wordAt x usedAt
     sign-few =
-        small (wordAt x (signAt + i)) _ (λ ne. let few : wordAt x (signAt + i) - 1 < wordAt x usedAt = ltb→lt _ _ (some-or (wordAt x (signAt + i)) _ sign-told ne) in omega arith)
+        small (wordAt x (signAt + i)) _
+        (λ ne. let few : wordAt x (signAt + i) - 1 < wordAt x usedAt = ltb→lt _ _ (some-or (wordAt x (signAt + i)) _ sign-told ne) in
+        omega arith)
 
     -- a Clear page's frame names it
     clear-told : (f : ℕ) → wordAt x (homeAt + i) ≡ 1 + f
-        → (f < s .frames) × T (namesPage (record { 0 = i / s .pages }) (record { 0 = i % s .pages }) (namesOf (tablesIn (s .pages) x) (record { 0 = f })))
+        → (f < s .frames) × T (namesPage (record { 0 = i / s .pages }) (record { 0 = i % s .pages })
+        (namesOf (tablesIn (s .pages) x) (record { 0 = f })))
     clear-told f e =
         let top : wordAt x (homeAt + i) ≤ 256 = home-small _ _ (canon .home i here) in
         let same : (wordAt x (homeAt + i) - 1) % 256 ≡ f = omega arith in
         let t = if-some (wordAt x (homeAt + i)) _ _ place-told (λ z. omega arith) in
-        let few : (wordAt x (homeAt + i) - 1) % 256 < s .frames = ltb→lt _ _ (first-true (ltb ((wordAt x (homeAt + i) - 1) % 256) (s .frames)) _ t) in (
+        let few : (wordAt x (homeAt + i) - 1) % 256 < s .frames = ltb→lt _ _
+        (first-true (ltb ((wordAt x (homeAt + i) - 1) % 256) (s .frames)) _ t) in (
           omega arith,
           rw same at
-              (first-true (namesPage (record { 0 = i / s .pages }) (record { 0 = i % s .pages }) (namesOf (tablesIn (s .pages) x) (record { 0 = (wordAt x (homeAt + i) - 1) % 256 }))) _
+              (first-true (namesPage (record { 0 = i / s .pages }) (record { 0 = i % s .pages })
+              (namesOf (tablesIn (s .pages) x) (record { 0 = (wordAt x (homeAt + i) - 1) % 256 }))) _
               (second-true (ltb ((wordAt x (homeAt + i) - 1) % 256) (s .frames)) _ t)),
         )
 

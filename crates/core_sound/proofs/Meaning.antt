@@ -91,10 +91,14 @@ module _ (s : Setup) (x y : List ℕ) (r : Room s) where
       let l = long (s .pages) x in
       let t = tablesIn (s .pages) x in
       record {
-        domains = λ i h. rw (domain-there (s .pages) x i h) at (all-at (domainSound s) emptyDomain (t .domains) (e .1 .1 .0) i (rw (l .domains) h));
-        contexts = λ i h. rw (context-there (s .pages) x i h) at (all-at (contextSound s t) freeContext (t .contexts) (e .1 .1 .1 .0) i (rw (l .contexts) h));
-        pages = λ i h. rw (page-there (s .pages) x i h) at (all-at (pageSound s t) publicPage (t .pages) (e .1 .1 .1 .1 .1 .0) i (rw (l .pages) h));
-        frames = λ i h. rw (frame-there (s .pages) x i h) at (all-at (frameSound s t) openFrame (t .frames) (e .1 .1 .1 .1 .1 .1 .0) i (rw (l .frames) h));
+        domains = λ i h. rw (domain-there (s .pages) x i h) at
+            (all-at (domainSound s) emptyDomain (t .domains) (e .1 .1 .0) i (rw (l .domains) h));
+        contexts = λ i h. rw (context-there (s .pages) x i h) at
+            (all-at (contextSound s t) freeContext (t .contexts) (e .1 .1 .1 .0) i (rw (l .contexts) h));
+        pages = λ i h. rw (page-there (s .pages) x i h) at
+            (all-at (pageSound s t) publicPage (t .pages) (e .1 .1 .1 .1 .1 .0) i (rw (l .pages) h));
+        frames = λ i h. rw (frame-there (s .pages) x i h) at
+            (all-at (frameSound s t) openFrame (t .frames) (e .1 .1 .1 .1 .1 .1 .0) i (rw (l .frames) h));
         used = rw (used-there (s .pages) x) at (leb→le (tablesIn (s .pages) x .used) (s .signatures) (e .1 .0));
       }
 

@@ -12,7 +12,8 @@ use borrow.Author.Tests.{eq-eqb, ne-eqb, lt-ltb}
 use Rattle.rules.specs.Bytes.{allOf}
 use Rattle.rules.specs.Sizes.{maxDomains, maxContexts, maxFrames, domainIn}
 use Rattle.rules.specs.Records.{publicPage, lifeOf, namesOf, placeOf, isEmpty, namesPage}
-use Rattle.rules.specs.Sound.{domainSound, begun, contextSound, mappingSound, placeSound, untouched, ownedSound, pageSound, namesSound, frameSound}
+use Rattle.rules.specs.Sound.{domainSound, begun, contextSound, mappingSound, placeSound, untouched, ownedSound, pageSound}
+use Rattle.rules.specs.Sound.{namesSound, frameSound}
 use Rattle.rules.specs.declared.Setup.{Setup}
 use Rattle.rules.specs.declared.Asid.{Asid}
 use Rattle.rules.specs.declared.DomainRecord.{DomainRecord}
@@ -20,13 +21,15 @@ use Rattle.rules.specs.declared.FrameRecord.{FrameRecord}
 use Rattle.rules.specs.declared.PageRecord.{PageRecord}
 use Rattle.rules.proofs.Facts.{passed}
 use Rattle.core_tables.specs.Words.{lifeIn, namesIn, mappingIn, placeIn}
-use Rattle.core_tables.specs.Image.{domainsAt, contextsAt, framesAt, mappedAt, homeAt, signAt, usedAt, maxEntries, wordAt, domainAt, contextAt, frameAt, pageAt, tablesIn, Canonical}
+use Rattle.core_tables.specs.Image.{domainsAt, contextsAt, framesAt, mappedAt, homeAt, signAt, usedAt, maxEntries, wordAt}
+use Rattle.core_tables.specs.Image.{domainAt, contextAt, frameAt, pageAt, tablesIn, Canonical}
 use Rattle.core_tables.proofs.Ranges.{life-kept, activity-kept, names-kept, mapping-kept, home-kept, sign-kept}
 use Rattle.core_tables.proofs.Reading.{domain-there, frame-there, page-there}
 use Rattle.core_sound.specs.Told.{Section, Right}
 use Rattle.core_sound.proofs.Room.{Room}
 use Rattle.core_sound.proofs.Choices.{by-zero, zero-or, some-nor, by-size, within-or, both-true}
-use Rattle.core_sound.proofs.Decoded.{life-empty, domainHere, context-free, context-sound, mapping-sound, untouched-test, place-sound, clear-test, none-test, page-test, names-sound}
+use Rattle.core_sound.proofs.Decoded.{life-empty, domainHere, context-free, context-sound, mapping-sound, untouched-test}
+use Rattle.core_sound.proofs.Decoded.{place-sound, clear-test, none-test, page-test, names-sound}
 
 -- every word of a table is at most top
 within : {x : List ℕ} {start count room top : ℕ} → Section x start count room top → (i : ℕ) → i < room → wordAt x (start + i) ≤ top
@@ -86,10 +89,15 @@ module _ (s : Setup) (x : List ℕ) (room : Room s) (right : Right s x) where
       let few = room .domains in
       let d : ℕ = (wordAt x (contextsAt + i) - 1) / 3 % 256 in
       let small : (wordAt x (contextsAt + i) - 1) / 3 % 256 < s .domains = omega arith in
-      rw (life-there (domainHere (wordAt x (contextsAt + i))) (omega arith), life-empty (wordAt x (domainsAt + (wordAt x (contextsAt + i) - 1) / 3 % 256)))
+      rw (
+        life-there (domainHere (wordAt x (contextsAt + i))) (omega arith),
+        life-empty
+            (wordAt x (domainsAt + (wordAt x (contextsAt + i) - 1) / 3 % 256)),
+      )
       (both-true (ltb ((wordAt x (contextsAt + i) - 1) / 3 % 256) (s .domains)) _ (passed _ (lt-ltb _ _ small))
       (both-true (not (eqb (wordAt x (domainsAt + (wordAt x (contextsAt + i) - 1) / 3 % 256)) 0)) true
-      (passed _ (ap not (ne-eqb _ 0 (λ e. right .empty ((wordAt x (contextsAt + i) - 1) / 3 % 256) small e .contexts i h (omega arith) (omega arith)))))
+      (passed _ (ap not (ne-eqb _ 0 (λ e. right .empty ((wordAt x (contextsAt + i) - 1) / 3 % 256) small e .contexts i h (omega arith)
+      (omega arith)))))
       tt))
 
   pub context-right : (i : ℕ) → i < maxContexts → T (contextSound s (tablesIn (s .pages) x) i (contextAt x i))
@@ -162,14 +170,17 @@ module _ (s : Setup) (x : List ℕ) (room : Room s) (right : Right s x) where
     unfolding tablesIn
     place-right =
         let small = home-small i here in
-        rw (place-sound s (tablesIn (s .pages) x) (record { 0 = i / s .pages }) (record { 0 = i % s .pages }) (wordAt x (homeAt + i)) (wordAt x (signAt + i)))
+        rw (place-sound s (tablesIn (s .pages) x) (record { 0 = i / s .pages }) (record { 0 = i % s .pages }) (wordAt x (homeAt + i))
+        (wordAt x (signAt + i)))
         (by-zero (wordAt x (homeAt + i)) _ _ (λ e. sign-right)
         (λ ne.
         let low : (wordAt x (homeAt + i) - 1) % 256 ≡ wordAt x (homeAt + i) - 1 = omega arith in
         let own : wordAt x (homeAt + i) ≡ 1 + (wordAt x (homeAt + i) - 1) = omega arith in
         both-true (ltb ((wordAt x (homeAt + i) - 1) % 256) (s .frames)) _
-        (passed _ (lt-ltb ((wordAt x (homeAt + i) - 1) % 256) (s .frames) (omega (arith, right .ways .homes i inside (wordAt x (homeAt + i) - 1) own .0))))
-        (both-true (namesPage (record { 0 = i / s .pages }) (record { 0 = i % s .pages }) (namesOf (tablesIn (s .pages) x) (record { 0 = (wordAt x (homeAt + i) - 1) % 256 }))) _
+        (passed _ (lt-ltb ((wordAt x (homeAt + i) - 1) % 256) (s .frames)
+        (omega (arith, right .ways .homes i inside (wordAt x (homeAt + i) - 1) own .0))))
+        (both-true (namesPage (record { 0 = i / s .pages }) (record { 0 = i % s .pages })
+        (namesOf (tablesIn (s .pages) x) (record { 0 = (wordAt x (homeAt + i) - 1) % 256 }))) _
         (rw low (named-right (wordAt x (homeAt + i) - 1) own))
         (both-true (eqb (wordAt x (signAt + i)) 0 || ltb (wordAt x (signAt + i) - 1) (wordAt x usedAt)) true sign-right tt))))
 
@@ -187,8 +198,10 @@ module _ (s : Setup) (x : List ℕ) (room : Room s) (right : Right s x) where
     unfolding ownedSound allOf
     owned-right =
         both-true (mappingSound s (mappingIn (wordAt x (mappedAt + i)))) _ mapping-right
-        (both-true (placeSound s (tablesIn (s .pages) x) (record { 0 = i / s .pages }) (record { 0 = i % s .pages }) (placeIn (wordAt x (homeAt + i)) (wordAt x (signAt + i)))) _ place-right
-        (both-true (not (isEmpty (lifeOf (tablesIn (s .pages) x) (record { 0 = i / s .pages }))) || untouched (pageAt x i)) true life-right tt))
+        (both-true (placeSound s (tablesIn (s .pages) x) (record { 0 = i / s .pages }) (record { 0 = i % s .pages })
+        (placeIn (wordAt x (homeAt + i)) (wordAt x (signAt + i)))) _ place-right
+        (both-true (not (isEmpty (lifeOf (tablesIn (s .pages) x) (record { 0 = i / s .pages }))) || untouched (pageAt x i)) true
+        life-right tt))
 
   pub page-right : (i : ℕ) → i < maxEntries → T (pageSound s (tablesIn (s .pages) x) i (pageAt x i))
   unfolding pageSound
@@ -232,5 +245,9 @@ module _ (s : Setup) (x : List ℕ) (room : Room s) (right : Right s x) where
       named : (w : ℕ) → wordAt x (framesAt + i) ≡ w → i < s .frames
           → T (namesSound s (tablesIn (s .pages) x) (record { 0 = i }) (namesIn (s .pages) (wordAt x (framesAt + i))))
       named zero e q =
-          rw (names-sound s (tablesIn (s .pages) x) (record { 0 = i }) (s .pages) (wordAt x (framesAt + i)), eq-eqb (wordAt x (framesAt + i)) 0 e) tt
+          rw (
+            names-sound s (tablesIn (s .pages) x) (record { 0 = i }) (s .pages) (wordAt x (framesAt + i)),
+            eq-eqb
+                (wordAt x (framesAt + i)) 0 e,
+          ) tt
       named (suc k) e q = frame-named i k q (e ∙ omega arith)

@@ -31,7 +31,8 @@ fn domain_bare(tables: &[u16], pages: usize, d: usize) -> u16
 // 0 where each Empty domain is bare.
 fn empty_bare(tables: &[u16], domains: usize, pages: usize) -> u16
     requires { ⌜ (length (now tables) ≡ imageWords) × (pages ≤ maxPages) × (domains ≤ maxDomains) ⌝ }
-    ensures { λ r. ⌜ Tells ((d : ℕ) → d < domains → wordAt (now (tables .entry)) (domainsAt + d) ≡ 0 → Bare pages (now (tables .entry)) d) r ⌝ }
+    ensures { λ r. ⌜ Tells ((d : ℕ) → d < domains → wordAt (now (tables .entry)) (domainsAt + d) ≡ 0
+        → Bare pages (now (tables .entry)) d) r ⌝ }
 {
     let mut any: u16 = 0;
     for d in 0..domains {

@@ -69,7 +69,8 @@ fn inside(w: u16, low: u16) -> u16
 // 0 where no context's word is one of the three above low.
 pub fn deserted(tables: &[u16], low: u16) -> u16
     requires { ⌜ (length (now tables) ≡ imageWords) × (low < 3 * maxDomains) ⌝ }
-    ensures { λ r. ⌜ Tells ((i : ℕ) → i < maxContexts → low < wordAt (now (tables .entry)) (contextsAt + i) → wordAt (now (tables .entry)) (contextsAt + i) ≤ low + 3 → ⊥) r ⌝ }
+    ensures { λ r. ⌜ Tells ((i : ℕ) → i < maxContexts → low < wordAt (now (tables .entry)) (contextsAt + i)
+        → wordAt (now (tables .entry)) (contextsAt + i) ≤ low + 3 → ⊥) r ⌝ }
 {
     let mut any: u16 = 0;
     for i in CONTEXTS_AT..FRAMES_AT {

@@ -25,8 +25,10 @@ fn differing(k: usize, home: u16, own: u16) -> u16
 
 // Lays the frames' names out in held, which is zero. 0 where each frame names no page, or one that is Clear in it.
 fn lay_out(tables: &[u16], frames: usize, held: &mut [u16; HELD]) -> u16
-    requires { ⌜ (length (now tables) ≡ imageWords) × (frames ≤ maxFrames) × (now held ≡ replicate 257 0) × ((f : ℕ) → f < frames → wordAt (now tables) (framesAt + f) ≤ maxEntries) ⌝ }
-    ensures { λ r. ⌜ (Holds (now (tables .entry)) frames (now (held .exit))) × Tells ((f : ℕ) → f < frames → NamesHome (now (tables .entry)) f) r ⌝ }
+    requires { ⌜ (length (now tables) ≡ imageWords) × (frames ≤ maxFrames) × (now held ≡ replicate (1 + maxEntries) 0)
+        × ((f : ℕ) → f < frames → wordAt (now tables) (framesAt + f) ≤ maxEntries) ⌝ }
+    ensures { λ r. ⌜ (Holds (now (tables .entry)) frames (now (held .exit)))
+        × Tells ((f : ℕ) → f < frames → NamesHome (now (tables .entry)) f) r ⌝ }
 {
     let mut any: u16 = 0;
     for f in 0..frames {
@@ -62,7 +64,8 @@ fn pages_kept(tables: &[u16], frames: usize, pages: usize, held: &[u16; HELD]) -
 
 // 0 where the pages' words are in range, and frames and pages tell of each other.
 pub fn late(tables: &[u16], frames: usize, pages: usize) -> u16
-    requires { ⌜ (length (now tables) ≡ imageWords) × (frames ≤ maxFrames) × (pages ≤ maxEntries) × ((f : ℕ) → f < frames → wordAt (now tables) (framesAt + f) ≤ pages) ⌝ }
+    requires { ⌜ (length (now tables) ≡ imageWords) × (frames ≤ maxFrames) × (pages ≤ maxEntries)
+        × ((f : ℕ) → f < frames → wordAt (now tables) (framesAt + f) ≤ pages) ⌝ }
     ensures { λ r. ⌜ Tells (Late (now (tables .entry)) frames pages) r ⌝ }
 {
     let mut held = [0u16; HELD];

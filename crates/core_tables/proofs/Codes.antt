@@ -19,7 +19,9 @@ use Rattle.rules.specs.declared.Wear.the-variants.{Dirty, Clean}
 use Rattle.rules.specs.declared.Place.{Place}
 use Rattle.rules.specs.declared.Place.the-variants.{Public, Clear, Sealed}
 use Rattle.rules.specs.declared.Named.the-variants.{Nothing, Page}
-use Rattle.core_tables.specs.Words.{lifeIn, lifeWord, activityAs, activityIn, activityWord, namesIn, namesWord, mappingIn, mappingWord, wearIn, hiddenIn, placeIn, homeWord, signWord, LifeCode, ActivityCode, NamesCode, MappingCode, PlaceCode, Housed}
+use Rattle.core_tables.specs.Words.{lifeIn, lifeWord, activityAs, activityIn, activityWord, namesIn, namesWord, mappingIn}
+use Rattle.core_tables.specs.Words.{mappingWord, wearIn, hiddenIn, placeIn, homeWord, signWord, LifeCode, ActivityCode}
+use Rattle.core_tables.specs.Words.{NamesCode, MappingCode, PlaceCode, Housed}
 
 -- a word that is not 0
 some : {A : Type 0} (n : ℕ) (x y : A) → cond (eqb (1 + n) 0) x y ≡ y

@@ -16,7 +16,9 @@ use Rattle.rules.specs.declared.ContextRecord.{ContextRecord}
 use Rattle.rules.specs.declared.FrameRecord.{FrameRecord}
 use Rattle.rules.specs.declared.PageRecord.{PageRecord}
 use Rattle.core_tables.specs.Words.{lifeWord, activityWord, namesWord, mappingWord, homeWord, signWord}
-use Rattle.core_tables.specs.Image.{imageWords, domainsAt, contextsAt, framesAt, mappedAt, homeAt, signAt, usedAt, maxEntries, domainAt, contextAt, frameAt, pageAt, tablesIn, imageOf, canonical, Canonical}
+use Rattle.core_tables.specs.Image.{imageWords, domainsAt, contextsAt, framesAt, mappedAt, homeAt, signAt, usedAt}
+use Rattle.core_tables.specs.Image.{maxEntries, domainAt, contextAt, frameAt, pageAt, tablesIn, imageOf, canonical}
+use Rattle.core_tables.specs.Image.{Canonical}
 use Rattle.core_tables.specs.Put.{Put}
 use Rattle.core_tables.proofs.Sections.{words-of, words-back}
 
@@ -32,19 +34,26 @@ module _ (v : ℕ) (x : List ℕ) (long : length x ≡ imageWords) where
       sym
       (rw (
         ← last,
-        words-of (λ (r : PageRecord). signWord (r .place)) (pageAt x) x signAt 0 maxEntries (omega arith) (λ i a b. c .sign i (omega arith)),
-        words-of (λ (r : PageRecord). homeWord (r .place)) (pageAt x) x homeAt 0 maxEntries (omega arith) (λ i a b. c .home i (omega arith)),
-        words-of (λ (r : PageRecord). mappingWord (r .mapping)) (pageAt x) x mappedAt 0 maxEntries (omega arith) (λ i a b. c .mapped i (omega arith)),
-        words-of (λ (r : FrameRecord). namesWord v (r .names)) (frameAt v x) x framesAt 0 maxFrames (omega arith) (λ i a b. c .frames i (omega arith)),
-        words-of (λ (r : ContextRecord). activityWord (r .activity)) (contextAt x) x contextsAt 0 maxContexts (omega arith) (λ i a b. c .contexts i (omega arith)),
-        words-of (λ (r : DomainRecord). lifeWord (r .life)) (domainAt x) x domainsAt 0 maxDomains (omega arith) (λ i a b. c .domains i (omega arith)),
+        words-of (λ (r : PageRecord). signWord (r .place)) (pageAt x) x signAt 0 maxEntries (omega arith)
+            (λ i a b. c .sign i (omega arith)),
+        words-of (λ (r : PageRecord). homeWord (r .place)) (pageAt x) x homeAt 0 maxEntries (omega arith)
+            (λ i a b. c .home i (omega arith)),
+        words-of (λ (r : PageRecord). mappingWord (r .mapping)) (pageAt x) x mappedAt 0 maxEntries (omega arith)
+            (λ i a b. c .mapped i (omega arith)),
+        words-of (λ (r : FrameRecord). namesWord v (r .names)) (frameAt v x) x framesAt 0 maxFrames (omega arith)
+            (λ i a b. c .frames i (omega arith)),
+        words-of (λ (r : ContextRecord). activityWord (r .activity)) (contextAt x) x contextsAt 0 maxContexts (omega arith)
+            (λ i a b. c .contexts i (omega arith)),
+        words-of (λ (r : DomainRecord). lifeWord (r .life)) (domainAt x) x domainsAt 0 maxDomains (omega arith)
+            (λ i a b. c .domains i (omega arith)),
       ))
 
   pub image-canonical : x ≡ imageOf v (tablesIn v x) → Canonical v x
   unfolding tablesIn imageOf
   image-canonical e =
       let d = words-back (λ (r : DomainRecord). lifeWord (r .life)) (domainAt x) x _ domainsAt 0 maxDomains (omega arith) (sym e) in
-      let c = words-back (λ (r : ContextRecord). activityWord (r .activity)) (contextAt x) x _ contextsAt 0 maxContexts (omega arith) (d .1) in
+      let c = words-back (λ (r : ContextRecord). activityWord (r .activity)) (contextAt x) x _ contextsAt 0 maxContexts (omega arith)
+      (d .1) in
       let f = words-back (λ (r : FrameRecord). namesWord v (r .names)) (frameAt v x) x _ framesAt 0 maxFrames (omega arith) (c .1) in
       let m = words-back (λ (r : PageRecord). mappingWord (r .mapping)) (pageAt x) x _ mappedAt 0 maxEntries (omega arith) (f .1) in
       let h = words-back (λ (r : PageRecord). homeWord (r .place)) (pageAt x) x _ homeAt 0 maxEntries (omega arith) (m .1) in

@@ -17,12 +17,15 @@ use Rattle.rules.specs.declared.Place.{Place}
 use Rattle.rules.specs.declared.Life.{Life}
 use Rattle.rules.specs.declared.Activity.{Activity}
 use Rattle.rules.specs.declared.Named.{Named}
-use Rattle.core_tables.specs.Words.{LifeCode, ActivityCode, NamesCode, MappingCode, PlaceCode, frameIn, namesIn, namesWord, domainIn, lifeIn, lifeWord, contextIn, activityIn, activityWord, mappingIn, mappingWord}
-use Rattle.core_tables.specs.Image.{imageWords, domainsAt, contextsAt, framesAt, mappedAt, homeAt, signAt, usedAt, maxEntries, tablesIn}
+use Rattle.core_tables.specs.Words.{LifeCode, ActivityCode, NamesCode, MappingCode, PlaceCode, frameIn, namesIn, namesWord}
+use Rattle.core_tables.specs.Words.{domainIn, lifeIn, lifeWord, contextIn, activityIn, activityWord, mappingIn, mappingWord}
+use Rattle.core_tables.specs.Image.{imageWords, domainsAt, contextsAt, framesAt, mappedAt, homeAt, signAt, usedAt}
+use Rattle.core_tables.specs.Image.{maxEntries, tablesIn}
 use Rattle.core_tables.specs.Put.{Put, setPage, setNames, setLife, setActivity, setUsed}
 use Rattle.core_tables.proofs.Ranges.{sign-kept}
 use Rattle.core_tables.proofs.Reading.{long}
-use Rattle.core_tables.proofs.Written.{Else, same, other, kept, changed, coded, still, pages-kept, home-still, page-mapping, page-place, home-coded}
+use Rattle.core_tables.proofs.Written.{Else, same, other, kept, changed, coded, still, pages-kept, home-still}
+use Rattle.core_tables.proofs.Written.{page-mapping, page-place, home-coded}
 
 module _ (v : ℕ) (x : List ℕ) (long : length x ≡ imageWords) where
   pub put-life : (i w : ℕ) (r : Life) → i < maxDomains → LifeCode r w
@@ -36,7 +39,8 @@ module _ (v : ℕ) (x : List ℕ) (long : length x ≡ imageWords) where
       record {
         tables =
             rw (
-              changed domainIn x y domainsAt maxDomains i w _ h (other x j w domainsAt maxDomains i refl) new (ap {B = DomainRecord} (λ (l : Life). record { life = l }) (code .back)),
+              changed domainIn x y domainsAt maxDomains i w _ h (other x j w domainsAt maxDomains i refl) new
+                  (ap {B = DomainRecord} (λ (l : Life). record { life = l }) (code .back)),
               kept contextIn x y contextsAt maxContexts (rest _ _ (λ k b e. omega arith)),
               pages-kept x y (rest _ _ (λ k b e. omega arith)) (rest _ _ (λ k b e. omega arith)) (rest _ _ (λ k b e. omega arith)),
               kept (frameIn v) x y framesAt maxFrames (rest _ _ (λ k b e. omega arith)),
@@ -44,7 +48,8 @@ module _ (v : ℕ) (x : List ℕ) (long : length x ≡ imageWords) where
             );
         canonical =
             λ c. record {
-              domains = coded lifeIn x y domainsAt maxDomains lifeWord i w (other x j w domainsAt maxDomains i refl) new (rw (code .back) (code .word)) (c .domains);
+              domains = coded lifeIn x y domainsAt maxDomains lifeWord i w (other x j w domainsAt maxDomains i refl) new
+                  (rw (code .back) (code .word)) (c .domains);
               contexts = still activityIn x y contextsAt maxContexts activityWord (rest _ _ (λ k b e. omega arith)) (c .contexts);
               frames = still (namesIn v) x y framesAt maxFrames (namesWord v) (rest _ _ (λ k b e. omega arith)) (c .frames);
               mapped = still mappingIn x y mappedAt maxEntries mappingWord (rest _ _ (λ k b e. omega arith)) (c .mapped);
@@ -65,7 +70,8 @@ module _ (v : ℕ) (x : List ℕ) (long : length x ≡ imageWords) where
         tables =
             rw (
               kept domainIn x y domainsAt maxDomains (rest _ _ (λ k b e. omega arith)),
-              changed contextIn x y contextsAt maxContexts i w _ h (other x j w contextsAt maxContexts i refl) new (ap {B = ContextRecord} (λ (l : Activity). record { activity = l }) (code .back)),
+              changed contextIn x y contextsAt maxContexts i w _ h (other x j w contextsAt maxContexts i refl) new
+                  (ap {B = ContextRecord} (λ (l : Activity). record { activity = l }) (code .back)),
               pages-kept x y (rest _ _ (λ k b e. omega arith)) (rest _ _ (λ k b e. omega arith)) (rest _ _ (λ k b e. omega arith)),
               kept (frameIn v) x y framesAt maxFrames (rest _ _ (λ k b e. omega arith)),
               getD-set-other x j usedAt w 0 (λ e. omega arith),
@@ -73,7 +79,8 @@ module _ (v : ℕ) (x : List ℕ) (long : length x ≡ imageWords) where
         canonical =
             λ c. record {
               domains = still lifeIn x y domainsAt maxDomains lifeWord (rest _ _ (λ k b e. omega arith)) (c .domains);
-              contexts = coded activityIn x y contextsAt maxContexts activityWord i w (other x j w contextsAt maxContexts i refl) new (rw (code .back) (code .word)) (c .contexts);
+              contexts = coded activityIn x y contextsAt maxContexts activityWord i w (other x j w contextsAt maxContexts i refl) new
+                  (rw (code .back) (code .word)) (c .contexts);
               frames = still (namesIn v) x y framesAt maxFrames (namesWord v) (rest _ _ (λ k b e. omega arith)) (c .frames);
               mapped = still mappingIn x y mappedAt maxEntries mappingWord (rest _ _ (λ k b e. omega arith)) (c .mapped);
               home = home-still x y (rest _ _ (λ k b e. omega arith)) (rest _ _ (λ k b e. omega arith)) (c .home);
@@ -95,14 +102,16 @@ module _ (v : ℕ) (x : List ℕ) (long : length x ≡ imageWords) where
               kept domainIn x y domainsAt maxDomains (rest _ _ (λ k b e. omega arith)),
               kept contextIn x y contextsAt maxContexts (rest _ _ (λ k b e. omega arith)),
               pages-kept x y (rest _ _ (λ k b e. omega arith)) (rest _ _ (λ k b e. omega arith)) (rest _ _ (λ k b e. omega arith)),
-              changed (frameIn v) x y framesAt maxFrames i w _ h (other x j w framesAt maxFrames i refl) new (ap {B = FrameRecord} (λ (l : Named). record { names = l }) (code .back)),
+              changed (frameIn v) x y framesAt maxFrames i w _ h (other x j w framesAt maxFrames i refl) new
+                  (ap {B = FrameRecord} (λ (l : Named). record { names = l }) (code .back)),
               getD-set-other x j usedAt w 0 (λ e. omega arith),
             );
         canonical =
             λ c. record {
               domains = still lifeIn x y domainsAt maxDomains lifeWord (rest _ _ (λ k b e. omega arith)) (c .domains);
               contexts = still activityIn x y contextsAt maxContexts activityWord (rest _ _ (λ k b e. omega arith)) (c .contexts);
-              frames = coded (namesIn v) x y framesAt maxFrames (namesWord v) i w (other x j w framesAt maxFrames i refl) new (rw (code .back) (code .word)) (c .frames);
+              frames = coded (namesIn v) x y framesAt maxFrames (namesWord v) i w (other x j w framesAt maxFrames i refl) new
+                  (rw (code .back) (code .word)) (c .frames);
               mapped = still mappingIn x y mappedAt maxEntries mappingWord (rest _ _ (λ k b e. omega arith)) (c .mapped);
               home = home-still x y (rest _ _ (λ k b e. omega arith)) (rest _ _ (λ k b e. omega arith)) (c .home);
               sign = λ k b. sign-kept _ _;
@@ -110,7 +119,8 @@ module _ (v : ℕ) (x : List ℕ) (long : length x ≡ imageWords) where
       }
 
   pub put-mapping : (i w : ℕ) (r : Mapping) → i < maxEntries → MappingCode r w
-      → Put v x (set x (mappedAt + i) w) (setPage i (record { mapping = r; place = (getD (tablesIn v x .pages) i publicPage) .place }) (tablesIn v x))
+      → Put v x (set x (mappedAt + i) w)
+      (setPage i (record { mapping = r; place = (getD (tablesIn v x .pages) i publicPage) .place }) (tablesIn v x))
   unfolding tablesIn
   put-mapping i w r h code =
       let j : ℕ = mappedAt + i in
@@ -122,7 +132,8 @@ module _ (v : ℕ) (x : List ℕ) (long : length x ≡ imageWords) where
             rw (
               kept domainIn x y domainsAt maxDomains (rest _ _ (λ k b e. omega arith)),
               kept contextIn x y contextsAt maxContexts (rest _ _ (λ k b e. omega arith)),
-              page-mapping x y i w r h (other x j w mappedAt maxEntries i refl) new (code .back) (rest _ _ (λ k b e. omega arith)) (rest _ _ (λ k b e. omega arith)),
+              page-mapping x y i w r h (other x j w mappedAt maxEntries i refl) new (code .back) (rest _ _ (λ k b e. omega arith))
+                  (rest _ _ (λ k b e. omega arith)),
               kept (frameIn v) x y framesAt maxFrames (rest _ _ (λ k b e. omega arith)),
               getD-set-other x j usedAt w 0 (λ e. omega arith),
             );
@@ -131,7 +142,8 @@ module _ (v : ℕ) (x : List ℕ) (long : length x ≡ imageWords) where
               domains = still lifeIn x y domainsAt maxDomains lifeWord (rest _ _ (λ k b e. omega arith)) (c .domains);
               contexts = still activityIn x y contextsAt maxContexts activityWord (rest _ _ (λ k b e. omega arith)) (c .contexts);
               frames = still (namesIn v) x y framesAt maxFrames (namesWord v) (rest _ _ (λ k b e. omega arith)) (c .frames);
-              mapped = coded mappingIn x y mappedAt maxEntries mappingWord i w (other x j w mappedAt maxEntries i refl) new (rw (code .back) (code .word)) (c .mapped);
+              mapped = coded mappingIn x y mappedAt maxEntries mappingWord i w (other x j w mappedAt maxEntries i refl) new
+                  (rw (code .back) (code .word)) (c .mapped);
               home = home-still x y (rest _ _ (λ k b e. omega arith)) (rest _ _ (λ k b e. omega arith)) (c .home);
               sign = λ k b. sign-kept _ _;
             };
@@ -186,17 +198,22 @@ module _ (v : ℕ) (x : List ℕ) (long : length x ≡ imageWords) where
             rw (
               kept domainIn x y domainsAt maxDomains (λ k b. rest2 _ _ (λ k b e. omega arith) k b ∙ rest _ _ (λ k b e. omega arith) k b),
               kept contextIn x y contextsAt maxContexts (λ k b. rest2 _ _ (λ k b e. omega arith) k b ∙ rest _ _ (λ k b e. omega arith) k b),
-              page-place x y i w z r within elseh elses newh news (code .back) (λ k b. rest2 _ _ (λ k b e. omega arith) k b ∙ rest _ _ (λ k b e. omega arith) k b),
+              page-place x y i w z r within elseh elses newh news (code .back)
+                  (λ k b. rest2 _ _ (λ k b e. omega arith) k b ∙ rest _ _ (λ k b e. omega arith) k b),
               kept (frameIn v) x y framesAt maxFrames (λ k b. rest2 _ _ (λ k b e. omega arith) k b ∙ rest _ _ (λ k b e. omega arith) k b),
               getD-set-other x2 (signAt + i) usedAt z 0 (λ e. omega arith),
               getD-set-other x (homeAt + i) usedAt w 0 (λ e. omega arith),
             );
         canonical =
             λ c. record {
-              domains = still lifeIn x y domainsAt maxDomains lifeWord (λ k b. rest2 _ _ (λ k b e. omega arith) k b ∙ rest _ _ (λ k b e. omega arith) k b) (c .domains);
-              contexts = still activityIn x y contextsAt maxContexts activityWord (λ k b. rest2 _ _ (λ k b e. omega arith) k b ∙ rest _ _ (λ k b e. omega arith) k b) (c .contexts);
-              frames = still (namesIn v) x y framesAt maxFrames (namesWord v) (λ k b. rest2 _ _ (λ k b e. omega arith) k b ∙ rest _ _ (λ k b e. omega arith) k b) (c .frames);
-              mapped = still mappingIn x y mappedAt maxEntries mappingWord (λ k b. rest2 _ _ (λ k b e. omega arith) k b ∙ rest _ _ (λ k b e. omega arith) k b) (c .mapped);
+              domains = still lifeIn x y domainsAt maxDomains lifeWord
+                  (λ k b. rest2 _ _ (λ k b e. omega arith) k b ∙ rest _ _ (λ k b e. omega arith) k b) (c .domains);
+              contexts = still activityIn x y contextsAt maxContexts activityWord
+                  (λ k b. rest2 _ _ (λ k b e. omega arith) k b ∙ rest _ _ (λ k b e. omega arith) k b) (c .contexts);
+              frames = still (namesIn v) x y framesAt maxFrames (namesWord v)
+                  (λ k b. rest2 _ _ (λ k b e. omega arith) k b ∙ rest _ _ (λ k b e. omega arith) k b) (c .frames);
+              mapped = still mappingIn x y mappedAt maxEntries mappingWord
+                  (λ k b. rest2 _ _ (λ k b e. omega arith) k b ∙ rest _ _ (λ k b e. omega arith) k b) (c .mapped);
               home = home-coded x y i w z elseh elses newh news (rw (code .back) (code .home)) (c .home);
               sign = λ k b. sign-kept _ _;
             };

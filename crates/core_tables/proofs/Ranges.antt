@@ -6,7 +6,8 @@ use native.Mathlib.Omega.{arith}
 use native.Mathlib.Nat.{div-add-mod'}
 use lib.Dec.{eqb}
 use borrow.Author.Tests.{eqb-true, ne-eqb}
-use Rattle.core_tables.specs.Words.{lifeIn, lifeWord, activityAs, activityIn, activityWord, namesIn, namesWord, mappingIn, mappingWord, wearIn, hiddenIn, placeIn, homeWord, signWord}
+use Rattle.core_tables.specs.Words.{lifeIn, lifeWord, activityAs, activityIn, activityWord, namesIn, namesWord, mappingIn}
+use Rattle.core_tables.specs.Words.{mappingWord, wearIn, hiddenIn, placeIn, homeWord, signWord}
 
 -- lives
 pub life-kept : (w : ℕ) → w ≤ 2 → lifeWord (lifeIn w) ≡ w

@@ -5,7 +5,8 @@ use mathlib.Core.List.{List, [], _∷_, _++_}
 use Prim.Native.Nat.{ℕ, zero, suc, _+_, _-_, _*_, _≤_, _<_}
 use native.Mathlib.Nat.{zero-add, suc-add, add-comm}
 use native.Mathlib.Omega.{arith}
-use lib.ListN.{length, getD, set, take, drop, replicate, length-append, length-replicate, getD-replicate, List·getD-append, drop-of-length-le, length-drop, take-append-drop}
+use lib.ListN.{length, getD, set, take, drop, replicate, length-append, length-replicate, getD-replicate, List·getD-append}
+use lib.ListN.{drop-of-length-le, length-drop, take-append-drop}
 use lib.Seq.{take-nil, length-take-le, set-append-left, getD-append-add, drop-drop}
 use Rattle.rules.specs.Bytes.{overlay}
 use Rattle.rules.specs.Sizes.{maxContexts}
@@ -85,7 +86,8 @@ module _ (y new : List ℕ) (eight : length new ≡ 8) where
   put-saved n i h l =
       let e : 0 + 8 * i ≡ 8 * i = omega arith in
       rw (← e, registers-put 0 n i h (omega arith))
-      (sym (set-append-left (registersIn 0 n y) (replicate (maxContexts - n) zeroRegisters) i (record { words = new }) (rw (length-registers 0 n y) h)))
+      (sym (set-append-left (registersIn 0 n y) (replicate (maxContexts - n) zeroRegisters) i (record { words = new })
+      (rw (length-registers 0 n y) h)))
 
 -- those past the setup's contexts are zero
 pub saved-past : (n i : ℕ) (y : List ℕ) → n ≤ i → i < maxContexts → getD (savedIn n y) i zeroRegisters ≡ zeroRegisters
@@ -102,7 +104,8 @@ words-back : (k n : ℕ) (y : List ℕ) (rest : List Registers) → length y ≡
 unfolding registersIn savedWords
 words-back k zero y rest l = sym (drop-of-length-le y {i = k} (omega arith))
 words-back k (suc n) y rest l =
-    ap (λ (m : List ℕ). take 8 (drop k y) ++ m) (words-back (8 + k) n y rest (omega arith) ∙ ap (λ (j : ℕ). drop j y) (add-comm 8 k) ∙ sym (drop-drop 8 k y))
+    ap (λ (m : List ℕ). take 8 (drop k y) ++ m)
+    (words-back (8 + k) n y rest (omega arith) ∙ ap (λ (j : ℕ). drop j y) (add-comm 8 k) ∙ sym (drop-drop 8 k y))
     ∙ take-append-drop 8 (drop k y)
 
 pub saved-image : (n : ℕ) (y : List ℕ) → length y ≡ 8 * n → y ≡ savedWords n (savedIn n y)

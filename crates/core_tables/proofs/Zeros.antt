@@ -6,8 +6,10 @@ use lib.ListN.{getD}
 use Rattle.rules.specs.Bytes.{zeros}
 use Rattle.rules.specs.Sizes.{maxDomains, maxContexts, maxFrames}
 use Rattle.rules.specs.Records.{freshTables, emptyDomain, freeContext, openFrame, publicPage}
-use Rattle.core_tables.specs.Words.{lifeIn, lifeWord, activityIn, activityWord, namesIn, namesWord, mappingIn, mappingWord, hiddenIn, placeIn, homeWord, signWord}
-use Rattle.core_tables.specs.Image.{imageWords, domainsAt, contextsAt, framesAt, mappedAt, homeAt, signAt, usedAt, maxEntries, domainAt, contextAt, frameAt, pageAt, tablesIn, Canonical}
+use Rattle.core_tables.specs.Words.{lifeIn, lifeWord, activityIn, activityWord, namesIn, namesWord, mappingIn, mappingWord}
+use Rattle.core_tables.specs.Words.{hiddenIn, placeIn, homeWord, signWord}
+use Rattle.core_tables.specs.Image.{imageWords, domainsAt, contextsAt, framesAt, mappedAt, homeAt, signAt, usedAt}
+use Rattle.core_tables.specs.Image.{maxEntries, domainAt, contextAt, frameAt, pageAt, tablesIn, Canonical}
 use Rattle.core_tables.proofs.Sections.{table-one}
 
 pub getD-zeros : (m k : ℕ) → getD (zeros m) k 0 ≡ 0

@@ -16,7 +16,8 @@ use Rattle.rules.specs.declared.ContextRecord.{ContextRecord}
 use Rattle.rules.specs.declared.FrameRecord.{FrameRecord}
 use Rattle.rules.specs.declared.PageRecord.{PageRecord}
 use Rattle.rules.specs.declared.Registers.{Registers}
-use Rattle.core_tables.specs.Words.{domainIn, lifeIn, lifeWord, contextIn, activityIn, activityWord, frameIn, namesIn, namesWord, pageIn, mappingIn, mappingWord, placeIn, homeWord, signWord}
+use Rattle.core_tables.specs.Words.{domainIn, lifeIn, lifeWord, contextIn, activityIn, activityWord, frameIn, namesIn}
+use Rattle.core_tables.specs.Words.{namesWord, pageIn, mappingIn, mappingWord, placeIn, homeWord, signWord}
 
 -- where each table starts, and how many words there are
 abbrev pub maxEntries : ℕ

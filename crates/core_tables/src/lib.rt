@@ -131,7 +131,9 @@ pub fn place_at(tables: &[u16], i: usize) -> Place
 
 pub fn put_mapping(tables: &mut [u16], i: usize, r: Mapping)
     requires { ⌜ (length (now tables) ≡ imageWords) × (i < maxEntries) ⌝ }
-    ensures { λ _. ⌜ ((v : ℕ) → Put v (now (tables .entry)) (now (tables .exit)) (setPage i (record { mapping = r; place = (getD (tablesIn v (now (tables .entry)) .pages) i publicPage) .place }) (tablesIn v (now (tables .entry))))) ⌝ }
+    ensures { λ _. ⌜ ((v : ℕ) → Put v (now (tables .entry)) (now (tables .exit))
+        (setPage i (record { mapping = r; place = (getD (tablesIn v (now (tables .entry)) .pages) i publicPage) .place })
+        (tablesIn v (now (tables .entry))))) ⌝ }
 {
     let at = MAPPED_AT + i;
     tables[at] = words::mapping_word(r);
@@ -139,7 +141,9 @@ pub fn put_mapping(tables: &mut [u16], i: usize, r: Mapping)
 
 pub fn put_place(tables: &mut [u16], i: usize, r: Place)
     requires { ⌜ (length (now tables) ≡ imageWords) × (i < maxEntries) × PlaceFits r ⌝ }
-    ensures { λ _. ⌜ ((v : ℕ) → Put v (now (tables .entry)) (now (tables .exit)) (setPage i (record { mapping = (getD (tablesIn v (now (tables .entry)) .pages) i publicPage) .mapping; place = r }) (tablesIn v (now (tables .entry))))) ⌝ }
+    ensures { λ _. ⌜ ((v : ℕ) → Put v (now (tables .entry)) (now (tables .exit))
+        (setPage i (record { mapping = (getD (tablesIn v (now (tables .entry)) .pages) i publicPage) .mapping; place = r })
+        (tablesIn v (now (tables .entry))))) ⌝ }
 {
     let home = HOME_AT + i;
     let sign = SIGN_AT + i;
@@ -182,8 +186,12 @@ pub fn put_move(
     frame: usize,
     names: Named,
 )
-    requires { ⌜ (length (now tables) ≡ imageWords) × (1 ≤ pages) × (pages ≤ maxPages) × (slot < maxEntries) × (frame < maxFrames) × PlaceFits place × NamesFit pages names ⌝ }
-    ensures { λ _. ⌜ Put pages (now (tables .entry)) (now (tables .exit)) (setNames frame names (setPage slot (record { mapping = (getD (tablesIn pages (now (tables .entry)) .pages) slot publicPage) .mapping; place = place }) (tablesIn pages (now (tables .entry))))) ⌝ }
+    requires { ⌜ (length (now tables) ≡ imageWords) × (1 ≤ pages) × (pages ≤ maxPages) × (slot < maxEntries) × (frame < maxFrames)
+        × PlaceFits place × NamesFit pages names ⌝ }
+    ensures { λ _. ⌜ Put pages (now (tables .entry)) (now (tables .exit))
+        (setNames frame names (setPage slot
+        (record { mapping = (getD (tablesIn pages (now (tables .entry)) .pages) slot publicPage) .mapping; place = place })
+        (tablesIn pages (now (tables .entry))))) ⌝ }
 {
     put_place(tables, slot, place);
     put_names(tables, pages, frame, names);
@@ -192,7 +200,8 @@ pub fn put_move(
 // One more than the number among all of the page that frame i names, or 0: what it names, with no division.
 pub fn slot_at(tables: &[u16], i: usize) -> u16
     requires { ⌜ (length (now tables) ≡ imageWords) × (i < maxFrames) ⌝ }
-    ensures { λ r. ⌜ ((v : ℕ) → Canonical v (now (tables .entry)) → r ≡ namesWord v ((getD (tablesIn v (now (tables .entry)) .frames) i openFrame) .names)) ⌝ }
+    ensures { λ r. ⌜ ((v : ℕ) → Canonical v (now (tables .entry)) → r
+        ≡ namesWord v ((getD (tablesIn v (now (tables .entry)) .frames) i openFrame) .names)) ⌝ }
 {
     let at = FRAMES_AT + i;
     tables[at]

@@ -2,7 +2,9 @@
 ghost use mathlib.Core.Path.{_≡_};
 ghost use Prim.Native.Nat.{_+_, _*_, _≤_};
 ghost use Rattle.rules.specs.Sizes.{maxPages};
-ghost use Rattle.core_tables.specs.Words.{lifeIn, activityAs, activityIn, namesIn, mappingIn, wearIn, hiddenIn, placeIn, homeWord, signWord, LifeCode, ActivityCode, NamesCode, MappingCode, NamesFit, PlaceFits, Housed};
+ghost use Rattle.core_tables.specs.Words.{lifeIn, activityAs, activityIn, namesIn, mappingIn, wearIn, hiddenIn, placeIn};
+ghost use Rattle.core_tables.specs.Words.{homeWord, signWord, LifeCode, ActivityCode, NamesCode, MappingCode, NamesFit};
+ghost use Rattle.core_tables.specs.Words.{PlaceFits, Housed};
 use rules::Activity;
 use rules::Asid;
 use rules::Gppn;

@@ -1,5 +1,4 @@
--- The fewest digits in base 10 that hold a number are its decimal digits, so that the kit's promise of `decimal` is ours. Assumes
--- nothing.
+-- The fewest digits in base 10 that hold a number are its decimal digits, so that the kit's promise of `decimal` is ours.
 use mathlib.Core.Path.{_≡_, refl, ap, _∙_}
 use mathlib.Core.List.{List, [], _∷_, _++_}
 use Prim.Native.Nat.{ℕ, zero, suc, _+_, _-_, _*_, _/_, _%_, _^_, _≤_, _<_}

@@ -1,4 +1,4 @@
--- A decimal number and a space, put as two bytes, or by the kit's digits and one byte more. Assumes nothing.
+-- A decimal number and a space, put as two bytes, or by the kit's digits and one byte more.
 use mathlib.Core.Path.{_≡_, ap, _∙_, subst}
 use mathlib.Core.List.{List, [], _∷_, _++_}
 use Prim.Native.Nat.{ℕ, _+_, _<_}

@@ -1,4 +1,4 @@
--- Texts put one behind the other are one text, and hex byte by byte. Assumes nothing.
+-- Texts put one behind the other are one text, and hex byte by byte.
 use mathlib.Core.Path.{_≡_, refl, sym, ap, ap₂, _∙_}
 use mathlib.Core.List.{List, [], _∷_, _++_, append-assoc}
 use Prim.Native.Nat.{ℕ, suc, _+_, _*_, _/_, _%_, _≤_, _<_}

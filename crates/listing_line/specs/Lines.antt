@@ -1,5 +1,5 @@
 -- Document 01, "The trace form": what trace-run's lines are made of. Decimal numbers, lower-case hex, one space between fields
--- and one newline at the end; a digit is the kit's. Assumes nothing.
+-- and one newline at the end; a digit is the kit's.
 use mathlib.Core.Path.{_≡_}
 use mathlib.Core.List.{List, [], _∷_, _++_}
 use mathlib.Core.Bool.{cond}

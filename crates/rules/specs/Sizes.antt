@@ -1,5 +1,5 @@
 -- Document 01, "Sizes": the limits of a setup, the lengths of the lent memory, and the number of a page.
--- The limits are those of the type `Setup`, whose method `in_range` is proved to test them. Assumes nothing.
+-- The limits are those of the type `Setup`, whose method `in_range` is proved to test them.
 use mathlib.Core.List.{List, [], _∷_}
 use mathlib.Core.Bool.{Bool}
 use Prim.Native.Nat.{ℕ, _+_, _*_, _%_}

@@ -1,4 +1,4 @@
--- Each list of runs gives what it says, worked out from the rules. Assumes nothing.
+-- Each list of runs gives what it says, worked out from the rules.
 use mathlib.Core.Path.{_≡_, refl}
 use mathlib.Core.List.{map}
 use Rattle.rules.specs.Example.{result}

@@ -1,6 +1,7 @@
--- Document 01, "Fourteen runs to prove": inputs and results, as one list, in its order. Assumes nothing.
+-- Document 01, "Fourteen runs to prove": inputs and results, as one list, in its order.
 use mathlib.Core.List.{List, [], _∷_}
-use Rattle.rules.specs.Example.{Run, then, says, quiet, refuses, S0, S1, Z, A, B, mapOf, kernelRead, kernelWrite, resumeOf, spawn, cloakOf, readOf, writeOf, registers, call, interrupt}
+use Rattle.rules.specs.Example.{Run, then, says, quiet, refuses, S0, S1, Z, A, B, mapOf, kernelRead, kernelWrite, resumeOf, spawn}
+use Rattle.rules.specs.Example.{cloakOf, readOf, writeOf, registers, call, interrupt}
 
 abbrev four : Run
 four = then B (writeOf 0 0 0x00 ∷ kernelRead 0 ∷ []) (quiet 1 ∷ says 0 1 0 2 S1 ∷ [])

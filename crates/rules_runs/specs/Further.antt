@@ -1,11 +1,13 @@
 -- Further runs, on what document 01's fourteen leave out: two signatures at once, pages that meet in one frame, ends, a Stopped
--- domain, Public pages, and the order of the refusals. Assumes nothing.
+-- domain, Public pages, and the order of the refusals.
 use mathlib.Core.List.{List, [], _∷_, _++_}
 use Prim.Native.Nat.{ℕ}
 use lib.ListN.{replicate}
 use Rattle.rules.specs.Records.{Given}
 use Rattle.rules.specs.Runs.{Ask}
-use Rattle.rules.specs.Example.{Run, Seen, then, says, quiet, refuses, S0, S1, Z, A, B, example, beginIn, end, mapOf, unmapOf, kernelRead, kernelWrite, resumeOf, spawn, leave, cloakOf, uncloakOf, readOf, writeOf, registers, call, interrupt, askWith}
+use Rattle.rules.specs.Example.{Run, Seen, then, says, quiet, refuses, S0, S1, Z, A, B, example, beginIn, end, mapOf, unmapOf}
+use Rattle.rules.specs.Example.{kernelRead, kernelWrite, resumeOf, spawn, leave, cloakOf, uncloakOf, readOf, writeOf, registers}
+use Rattle.rules.specs.Example.{call, interrupt, askWith}
 use Rattle.rules.specs.declared.Setup.{Setup}
 use Rattle.rules.specs.declared.Event.the-variants.{KernelWrite, Read}
 

@@ -33,9 +33,11 @@ same-length-4 c = search needs
 
 returns : tie.Need-returns
 returns c =
-    let tested = c .before .before .before .before .before .before .before .before in
+    let back8 = c .before .before .before .before .before .before .before .before in
+    let tested = back8 in
     let zeroed = tested .before .before .before .before .before .before .before in
-    starts _ _ _ _ _ _ (zeroed .before .before .startable .ensures) (zeroed .zero .ensures) (tested .before .before .before .zero2 .ensures) (tested .if1 .taken)
+    starts _ _ _ _ _ _ (zeroed .before .before .startable .ensures) (zeroed .zero .ensures)
+    (tested .before .before .before .zero2 .ensures) (tested .if1 .taken)
     (c .before .before .before .before .before .before .zero3 .ensures) (c .before .before .zero4 .ensures)
 
 same-length-5 : tie.Need-same-length-5
@@ -53,7 +55,8 @@ same-length-8 c = search needs
 returns-2 : tie.Need-returns-2
 returns-2 c =
     let zeroed = c .before .before .before .before .before .before .before in
-    starts-not _ _ _ _ _ _ (zeroed .before .before .startable .ensures) (zeroed .zero .ensures) (c .before .before .before .zero2 .ensures) (c .if1 .left)
+    starts-not _ _ _ _ _ _ (zeroed .before .before .startable .ensures) (zeroed .zero .ensures)
+    (c .before .before .before .zero2 .ensures) (c .if1 .left)
 
 pub start-spec : {M : Type 1} → statement M
 start-spec =

@@ -41,7 +41,8 @@ same-length-4 c = search needs
 
 returns : tie.Need-returns
 returns c =
-    let h = handedIn (c .before .before .before .before .before .before .before .before .before .before .before .before .before .before .before) in
+    let back8 = c .before .before .before .before .before .before .before .before in
+    let h = handedIn (back8 .before .before .before .before .before .before .before) in
     ten h (c .before .before .before .acceptable .ensures) (not-true _ (c .before .before .if1 .taken)) (c .refused .ensures h refl)
 
 refusal-requires : tie.Need-refusal-requires
@@ -68,12 +69,15 @@ returns-2 : tie.Need-returns-2
 returns-2 c =
     let e = c .before .before .before .before .before in
     let h = handedIn (begun e) in
-    refused-by h (e .before .acceptable .ensures) (taken e) (c .before .before .before .refusal .ensures) (c .before .before .if2 .taken) (c .refused2 .ensures h refl)
+    refused-by h (e .before .acceptable .ensures) (taken e) (c .before .before .before .refusal .ensures)
+    (c .before .before .if2 .taken) (c .refused2 .ensures h refl)
 
 perform-requires : tie.Need-perform-requires
 perform-requires c κs =
-    let e = c .before .before .before .before .before .before .before .before in
-    later (handedIn (begun e)) (e .before .acceptable .ensures) (taken e) (c .before .before .before .before .before .before .refusal .ensures) ∙ c .before .before .before .before .before .if2 .left
+    let back8 = c .before .before .before .before .before .before .before .before in
+    let e = back8 in
+    later (handedIn (begun e)) (e .before .acceptable .ensures) (taken e)
+    (c .before .before .before .before .before .before .refusal .ensures) ∙ c .before .before .before .before .before .if2 .left
 
 same-length-9 : tie.Need-same-length-9
 same-length-9 c = search needs

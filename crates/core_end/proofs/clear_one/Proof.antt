@@ -18,11 +18,14 @@ same-length c = search needs
 
 returns : tie.Need-returns
 returns c =
-    λ v. cleared-one _ v _ _ _ _ (c .before .before .before .before .before .before .activity-at .ensures v) (c .before .before .before .before .before .is-in .ensures) _ (c .before .before .before .before .if1 .taken) (c .before .before .clear-saved .ensures)
+    λ v. cleared-one _ v _ _ _ _ (c .before .before .before .before .before .before .activity-at .ensures v)
+    (c .before .before .before .before .before .is-in .ensures) _ (c .before .before .before .before .if1 .taken)
+    (c .before .before .clear-saved .ensures)
 
 returns-2 : tie.Need-returns-2
 returns-2 c =
-    λ v. not-cleared _ v _ _ (c .before .before .before .before .before .args .saved .now) _ (c .before .before .activity-at .ensures v) (c .before .is-in .ensures) (c .if1 .left)
+    λ v. not-cleared _ v _ _ (c .before .before .before .before .before .args .saved .now) _ (c .before .before .activity-at .ensures v)
+    (c .before .is-in .ensures) (c .if1 .left)
 
 pub clear-one-spec : {M : Type 1} → statement M
 clear-one-spec =

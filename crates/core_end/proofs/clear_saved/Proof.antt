@@ -23,7 +23,8 @@ unfolding mapUpTo
 loop-holds c = (omega arith, refl, λ v. refl)
 
 clear-one-requires : tie.Need-clear-one-requires Inv-loop μ-loop
-clear-one-requires c κs = let p = c .before .before .before .before .before .pre in (p .0, c .before .before .loop .inv .1 ∙ p .1, p .2, omega arith)
+clear-one-requires c κs = let p = c .before .before .before .before .before .pre in
+    (p .0, c .before .before .loop .inv .1 ∙ p .1, p .2, omega arith)
 
 add-i : tie.Need-add-i Inv-loop μ-loop
 add-i c = omega arith
@@ -33,8 +34,13 @@ loop-less c = omega arith
 
 loop-again : tie.Need-loop-again Inv-loop μ-loop
 loop-again c =
-    let l = c .before .before .before .before .before .loop in
-    (omega arith, c .before .saved .given ∙ l .inv .1, λ v. turn-saved _ v _ _ _ _ (l .i) (c .before .before .before .before .before .before .before .before .pre .2) (omega arith) _ (l .inv .2 v) (c .before .before .clear-one .ensures v))
+    let back8 = c .before .before .before .before .before .before .before .before in
+    let l = c .before .before .before .before .before .loop in (
+      omega arith,
+      c .before .saved .given ∙ l .inv .1,
+      λ v. turn-saved _ v _ _ _ _ (l .i) (back8 .pre .2) (omega arith) _ (l .inv .2 v)
+          (c .before .before .clear-one .ensures v),
+    )
 
 same-length : tie.Need-same-length Inv-loop μ-loop
 same-length c = c .before .loop .inv .1

@@ -28,33 +28,59 @@ zero-page-requires c κs =
     rw (p .store-long) (slots-within _ _ _ _ (p .domain))
 
 clear-saved-requires : tie.Need-clear-saved-requires
-clear-saved-requires c κs = let p = c .before .before .before .before .before .before .before .before .before .before .before .before .before .before .before .before .before .pre in (p .tested .long, p .saved-long, p .tested .limited .contexts)
+clear-saved-requires c κs =
+    let back8 = c .before .before .before .before .before .before .before .before in
+    let back16 = back8 .before .before .before .before .before .before .before .before in
+    let p = back16 .before .pre in (p .tested .long, p .saved-long, p .tested .limited .contexts)
 
 free-contexts-requires : tie.Need-free-contexts-requires
-free-contexts-requires c κs = c .before .before .before .before .before .before .before .before .before .before .before .before .before .before .before .before .before .before .before .before .before .pre .tested .long
+free-contexts-requires c κs =
+    let back8 = c .before .before .before .before .before .before .before .before in
+    let back16 = back8 .before .before .before .before .before .before .before .before in
+    back16 .before .before .before .before .before .pre .tested .long
 
 open-frames-requires : tie.Need-open-frames-requires
 open-frames-requires c κs =
-    let p = c .before .before .before .before .before .before .before .before .before .before .before .before .before .before .before .before .before .before .before .before .before .before .before .before .before .pre in
-    let v = c .before .before .before .before .before .before .before .before .before .before .before .before .before .before .before .before .before .before .before .before .before .before .before .before .before .args .setup .pages in
-    (c .before .before .before .free-contexts .kept .0 ∙ p .tested .long, p .tested .limited .some-pages, p .tested .limited .pages, c .before .before .before .free-contexts .ensures v .canonical (p .tested .canonical))
+    let back8 = c .before .before .before .before .before .before .before .before in
+    let back16 = back8 .before .before .before .before .before .before .before .before in
+    let back24 = back16 .before .before .before .before .before .before .before .before in
+    let p = back24 .before .pre in
+    let v = back24 .before .args .setup .pages in (
+      c .before .before .before .free-contexts .kept .0
+          ∙ p .tested .long,
+      p .tested .limited .some-pages,
+      p .tested .limited .pages,
+      c .before .before .before .free-contexts .ensures
+          v .canonical (p .tested .canonical),
+    )
 
 mul-publish-pages : tie.Need-mul-publish-pages
 mul-publish-pages c =
-    let p = c .before .before .before .before .before .before .before .before .before .before .before .before .before .before .before .before .before .before .before .before .before .before .before .before .before .before .before .before .before .before .pre in
+    let back8 = c .before .before .before .before .before .before .before .before in
+    let back16 = back8 .before .before .before .before .before .before .before .before in
+    let back24 = back16 .before .before .before .before .before .before .before .before in
+    let p = back24 .before .before .before .before .before .before .pre in
     omega (arith, slots-fit _ _ _ (p .domain) (p .tested .limited .domains) (p .tested .limited .pages))
 
 publish-pages-requires : tie.Need-publish-pages-requires
 publish-pages-requires c κs =
-    let p = c .before .before .before .before .before .before .before .before .before .before .before .before .before .before .before .before .before .before .before .before .before .before .before .before .before .before .before .before .before .before .pre in (
-      c .before .before .before .before .open-frames .kept .0 ∙ c .before .before .before .before .before .before .before .before .free-contexts .kept .0 ∙ p .tested .long,
+    let back8 = c .before .before .before .before .before .before .before .before in
+    let back16 = back8 .before .before .before .before .before .before .before .before in
+    let back24 = back16 .before .before .before .before .before .before .before .before in
+    let p = back24 .before .before .before .before .before .before .pre in (
+      c .before .before .before .before .open-frames .kept .0 ∙ back8 .free-contexts .kept .0 ∙ p .tested .long,
       slots-fit _ _ _ (p .domain) (p .tested .limited .domains) (p .tested .limited .pages),
     )
 
 put-life-requires : tie.Need-put-life-requires
 put-life-requires c κs =
-    let p = c .before .before .before .before .before .before .before .before .before .before .before .before .before .before .before .before .before .before .before .before .before .before .before .before .before .before .before .before .before .before .before .before .before .before .pre in (
-      c .before .before .before .publish-pages .kept .0 ∙ c .before .before .before .before .before .before .before .before .open-frames .kept .0 ∙ c .before .before .before .before .before .before .before .before .before .before .before .before .free-contexts .kept .0 ∙ p .tested .long,
+    let back8 = c .before .before .before .before .before .before .before .before in
+    let back16 = back8 .before .before .before .before .before .before .before .before in
+    let back24 = back16 .before .before .before .before .before .before .before .before in
+    let back32 = back24 .before .before .before .before .before .before .before .before in
+    let p = back32 .before .before .pre in (
+      c .before .before .before .publish-pages .kept .0 ∙ back8 .open-frames .kept .0
+          ∙ back8 .before .before .before .before .free-contexts .kept .0 ∙ p .tested .long,
       omega (arith, p .domain, p .tested .limited .domains),
     )
 
@@ -72,13 +98,17 @@ same-length-4 c = search needs
 
 returns : tie.Need-returns
 returns c =
-    let a = c .before .before .before .before .before .before .before .before .before .before .before .before .before .before .before .before .before .before .before .before .before .before .before .before .before .before .before .before .before .before .before .before .before .before .before .before .before .args in
+    let back8 = c .before .before .before .before .before .before .before .before in
+    let back16 = back8 .before .before .before .before .before .before .before .before in
+    let back24 = back16 .before .before .before .before .before .before .before .before in
+    let back32 = back24 .before .before .before .before .before .before .before .before in
+    let a = back32 .before .before .before .before .before .args in
     let v = a .setup .pages in
-    all-ended (a .setup) _ _ _ _ (a .saved .now) _ (c .before .before .before .before .before .before .before .before .before .before .before .before .before .before .before .before .before .before .before .before .before .before .before .before .before .before .before .before .before .before .zero-frames .ensures)
-    (c .before .before .before .before .before .before .before .before .before .before .before .before .before .before .before .before .before .before .before .before .before .before .before .before .zero-page .ensures)
-    (c .before .before .before .before .before .before .before .before .before .before .before .before .before .before .before .before .before .before .before .clear-saved .ensures v)
-    (c .before .before .before .before .before .before .before .before .before .before .before .before .before .before .before .free-contexts .ensures v)
-    (c .before .before .before .before .before .before .before .before .before .before .before .open-frames .ensures)
+    all-ended (a .setup) _ _ _ _ (a .saved .now) _ (back24 .before .before .before .before .before .before .zero-frames .ensures)
+    (back24 .zero-page .ensures)
+    (back16 .before .before .before .clear-saved .ensures v)
+    (back8 .before .before .before .before .before .before .before .free-contexts .ensures v)
+    (back8 .before .before .before .open-frames .ensures)
     (c .before .before .before .before .before .before .publish-pages .ensures v)
     (c .before .before .put-life .ensures v)
 

@@ -1,6 +1,7 @@
 -- `names_in` meets its contract: a domain's pages have consecutive numbers.
 use native.Mathlib.Omega.{arith}
 use native.Mathlib.Nat.{mul-le-mul}
+use Rattle.rules.specs.Sizes.{maxPages}
 use Rattle.core_end.proofs.Naming.{names-below, names-past, names-within}
 use borrow.Author.Needs.{needs}
 use Rattle.core_end.proofs.names_in.Statement.{statement}
@@ -11,7 +12,8 @@ cast-first c = search needs
 
 mul-first : tie.Need-mul-first
 mul-first c =
-    omega (arith, mul-le-mul {n₁ = c .before .args .d .0} {m₁ = c .before .args .pages} {n₂ = 255} {m₂ = 32} (omega arith) (omega arith))
+    let a = c .before .args in
+    omega (arith, mul-le-mul {n₁ = a .d .0} {m₁ = a .pages} {n₂ = 255} {m₂ = maxPages} (omega arith) (omega arith))
 
 returns : tie.Need-returns
 returns c = λ names fit is. names-below _ _ (c .before .before .args .d) names fit is (omega arith)

@@ -20,8 +20,12 @@ same-length c = search needs
 
 returns : tie.Need-returns
 returns c =
-    let p = c .before .before .before .before .before .before .before .before .before .pre in
-    opened-one _ _ _ (p .1) (p .3) _ (c .before .before .before .before .before .names-in .ensures _ (named-fits _ _ _ (p .1) (p .3)) (c .before .before .before .before .before .before .slot-at .ensures _ (p .4))) (c .before .before .before .before .if1 .taken) (c .before .before .put-names .ensures)
+    let back8 = c .before .before .before .before .before .before .before .before in
+    let p = back8 .before .pre in
+    opened-one _ _ _ (p .1) (p .3) _
+    (c .before .before .before .before .before .names-in .ensures _ (named-fits _ _ _ (p .1) (p .3))
+    (c .before .before .before .before .before .before .slot-at .ensures _ (p .4))) (c .before .before .before .before .if1 .taken)
+    (c .before .before .put-names .ensures)
 
 same-length-2 : tie.Need-same-length-2
 same-length-2 c = search needs
@@ -29,7 +33,8 @@ same-length-2 c = search needs
 returns-2 : tie.Need-returns-2
 returns-2 c =
     let p = c .before .before .before .before .before .pre in
-    not-opened _ _ _ (p .1) (p .3) _ (c .before .names-in .ensures _ (named-fits _ _ _ (p .1) (p .3)) (c .before .before .slot-at .ensures _ (p .4))) (c .if1 .left)
+    not-opened _ _ _ (p .1) (p .3) _
+    (c .before .names-in .ensures _ (named-fits _ _ _ (p .1) (p .3)) (c .before .before .slot-at .ensures _ (p .4))) (c .if1 .left)
 
 pub open-one-spec : {M : Type 1} → statement M
 open-one-spec =

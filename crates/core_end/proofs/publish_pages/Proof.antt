@@ -39,8 +39,12 @@ loop-less c = omega arith
 
 loop-again : tie.Need-loop-again Inv-loop μ-loop
 loop-again c =
-    let l = c .before .before .before .before .before .loop in
-    (omega arith, c .before .tables .given ∙ l .inv .1, λ v. turn-pages v _ _ (l .i) _ (l .inv .2 v) (c .before .before .put-page .ensures v))
+    let l = c .before .before .before .before .before .loop in (
+      omega arith,
+      c .before .tables .given ∙ l .inv .1,
+      λ v. turn-pages v _ _ (l .i) _ (l .inv .2 v)
+          (c .before .before .put-page .ensures v),
+    )
 
 same-length : tie.Need-same-length Inv-loop μ-loop
 same-length c = c .before .loop .inv .1

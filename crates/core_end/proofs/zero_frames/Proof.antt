@@ -3,6 +3,7 @@ use mathlib.Core.Path.{_≡_, refl, sym, _∙_}
 use Prim.Native.Nat.{_≤_, _-_}
 use native.Mathlib.Omega.{arith}
 use lib.ListN.{length, drop}
+use Rattle.rules.specs.Sizes.{maxFrames}
 use Rattle.rules.specs.Events.{zeroNamed}
 use Rattle.core_tables.specs.Image.{tablesIn}
 use Rattle.core_end.proofs.Zeroing.{zero-turn, zero-done}
@@ -13,11 +14,12 @@ use Rattle.core_end.proofs.zero_frames.Tie as tie
 
 abbrev Inv-loop : tie.InvT-loop
 Inv-loop setup tables d frames₀ k₀ frames k =
-    (k ≤ 64) × (length frames ≡ length frames₀)
-    × (zeroNamed setup d k (drop k (tablesIn (setup .pages) tables .frames)) frames ≡ zeroNamed setup d 0 (tablesIn (setup .pages) tables .frames) frames₀)
+    (k ≤ maxFrames) × (length frames ≡ length frames₀)
+    × (zeroNamed setup d k (drop k (tablesIn (setup .pages) tables .frames)) frames
+    ≡ zeroNamed setup d 0 (tablesIn (setup .pages) tables .frames) frames₀)
 
 abbrev μ-loop : tie.MeasureT-loop
-μ-loop setup tables d frames₀ k₀ frames k = 64 - k
+μ-loop setup tables d frames₀ k₀ frames k = maxFrames - k
 
 loop-holds : tie.Need-loop-holds Inv-loop μ-loop
 loop-holds c = (omega arith, refl, refl)
@@ -32,7 +34,9 @@ zero-if-requires : tie.Need-zero-if-requires Inv-loop μ-loop
 zero-if-requires c κs =
     let p = c .before .before .before .before .before .before .before .pre in
     let l = c .before .before .before .before .loop in
-    let is = (c .before .names-in .ensures _ (named-fits _ (c .before .before .before .before .before .before .before .args .tables .now) (l .k) (p .1) (omega arith)) (c .before .before .slot-at .ensures _ (p .3))) in
+    let is = (c .before .names-in .ensures _
+    (named-fits _ (c .before .before .before .before .before .before .before .args .tables .now) (l .k) (p .1) (omega arith))
+    (c .before .before .slot-at .ensures _ (p .3))) in
     λ h. rw (l .inv .1) (p .4 .fits (l .k) (omega arith) (rw is at h))
 
 add-k : tie.Need-add-k Inv-loop μ-loop
@@ -43,9 +47,12 @@ loop-less c = omega arith
 
 loop-again : tie.Need-loop-again Inv-loop μ-loop
 loop-again c =
-    let p = c .before .before .before .before .before .before .before .before .before .before .pre in
+    let back8 = c .before .before .before .before .before .before .before .before in
+    let p = back8 .before .before .pre in
     let l = c .before .before .before .before .before .before .before .loop in
-    let is = (c .before .before .before .before .names-in .ensures _ (named-fits _ (c .before .before .before .before .before .before .before .before .before .before .args .tables .now) (l .k) (p .1) (omega arith)) (c .before .before .before .before .before .slot-at .ensures _ (p .3))) in (
+    let is = (c .before .before .before .before .names-in .ensures _
+    (named-fits _ (back8 .before .before .args .tables .now) (l .k) (p .1) (omega arith))
+    (c .before .before .before .before .before .slot-at .ensures _ (p .3))) in (
       omega arith,
       c .before .frames .given ∙ l .inv .1,
       zero-turn _ _ _ (l .k) (l .frames) (rw (long _ _ .frames) (omega arith)) (rw is at (c .before .before .zero-if .ensures)) ∙ l .inv .2,

@@ -84,13 +84,15 @@ cast-part-of : tie.Need-cast-part-of
 cast-part-of c = search needs
 
 part-of-requires : tie.Need-part-of-requires
-part-of-requires c κs = frame-fits (page-within (c .before .before .before .before .before .before)) (here (c .before .before .before .before)) (c .before .before .place .given .1)
+part-of-requires c κs = frame-fits (page-within (c .before .before .before .before .before .before))
+    (here (c .before .before .before .before)) (c .before .before .place .given .1)
 
 enum-told-2 : tie.Need-enum-told-2
 enum-told-2 c = search needs
 
 part-of-requires-2 : tie.Need-part-of-requires-2
-part-of-requires-2 c κs = rw (c .before .before .before .page-number .ensures .is) (slot-fits (page-within (c .before .before .before .before)))
+part-of-requires-2 c κs = rw (c .before .before .before .page-number .ensures .is)
+    (slot-fits (page-within (c .before .before .before .before)))
 
 returns-2 : tie.Need-returns-2
 unfolding contentsAt
@@ -101,7 +103,8 @@ returns-2 c =
 returns-3 : tie.Need-returns-3
 unfolding contentsAt
 returns-3 c =
-    let l = told (c .before .before .before .before .before .before .before) (sym (c .before .before .before .place .given .1) ∙ here (c .before .before .before .before .before)) in
+    let l = told (c .before .before .before .before .before .before .before)
+    (sym (c .before .before .before .place .given .1) ∙ here (c .before .before .before .before .before)) in
     record { bytes = c .part-of .ensures .0 ∙ l .0; stands = c .part-of .ensures .1 ∙ l .1 }
 
 returns-4 : tie.Need-returns-4

@@ -15,7 +15,8 @@ page-within : (c : tie.Else2)
     → let a = c .before .before .before .before .before .before .before .before .args in
     Within (a .setup) (a .tables .now) (a .saved .now) (a .frames .now) (a .store .now) (a .domain) (a .page)
 page-within c =
-    within _ _ _ _ _ _ _ (c .before .before .before .lookable .ensures) (c .before .before .if1 .left) (c .before .inside .ensures) (c .if2 .left)
+    within _ _ _ _ _ _ _ (c .before .before .before .lookable .ensures) (c .before .before .if1 .left) (c .before .inside .ensures)
+    (c .if2 .left)
 
 -- what is answered once the page's place is known
 answered-at : (c : tie.After-place-at)
@@ -23,9 +24,11 @@ answered-at : (c : tie.After-place-at)
     cond (isPublic (c .place-at .result)) 4 0
     ≡ lookNumber (a .setup) (a .tables .now) (a .saved .now) (a .frames .now) (a .store .now) (a .domain) (a .page)
 answered-at c =
-    let a = c .before .before .before .before .before .before .before .before .before .before .args in
+    let back8 = c .before .before .before .before .before .before .before .before in
+    let a = back8 .before .before .args in
     let v = a .setup .pages in
-    answered _ _ _ _ _ _ _ (c .before .before .before .before .before .lookable .ensures) (c .before .before .before .before .if1 .left) (c .before .before .before .inside .ensures) (c .before .before .if2 .left)
+    answered _ _ _ _ _ _ _ (c .before .before .before .before .before .lookable .ensures) (c .before .before .before .before .if1 .left)
+    (c .before .before .before .inside .ensures) (c .before .before .if2 .left)
     (place-read (a .setup) (a .tables .now) (a .domain) (a .page) (c .before .page-number .ensures .is) (c .place-at .ensures v))
 
 lookable-requires : tie.Need-lookable-requires

@@ -30,7 +30,8 @@ other : (c : tie.At-match-keys2) → first (entry-other c) ≡ (entry-other c) .
 other c =
     let a = (entry-other c) .args in
     first-other _ _
-    (rw (place-read (a .setup) (a .tables .now) (a .d) (a .v) (c .before .before .before .page-number .ensures .is) (c .before .place-at .ensures (a .setup .pages))) at (c .match .keys2))
+    (rw (place-read (a .setup) (a .tables .now) (a .d) (a .v) (c .before .before .before .page-number .ensures .is)
+    (c .before .place-at .ensures (a .setup .pages))) at (c .match .keys2))
 
 -- Clear elsewhere
 abbrev entry : tie.Else1 → tie.Start
@@ -41,8 +42,10 @@ home c = c .before .before .before .before .place .given .0 .0
 
 clear : (c : tie.Else1) → placed (entry c) ≡ Clear (home c) (c .before .before .before .before .place .given .0 .1 .0)
 clear c =
+    let back8 = c .before .before .before .before .before .before .before .before in
     let a = (entry c) .args in
-    sym (place-read (a .setup) (a .tables .now) (a .d) (a .v) (c .before .before .before .before .before .before .before .before .page-number .ensures .is) (c .before .before .before .before .before .before .place-at .ensures (a .setup .pages)))
+    sym (place-read (a .setup) (a .tables .now) (a .d) (a .v) (back8 .page-number .ensures .is)
+    (c .before .before .before .before .before .before .place-at .ensures (a .setup .pages)))
     ∙ c .before .before .before .before .place .given .1
 
 away : (c : tie.Else1) → first (entry c) ≡ home c ∷ (entry c) .args .f ∷ []
@@ -76,17 +79,20 @@ same-length-3 c = search needs
 
 returns : tie.Need-returns
 returns c =
+    let back8 = c .before .before .before .before .before .before .before .before in
     let done = c .before .before .before .before .before .before .seal-and-unveil .ensures in
-    λ z. record { is = after-one _ _ _ _ _ (other (c .before .before .before .before .before .before .before .before .before .before)) (done z .is); canonical = done z .canonical }
+    λ z. record { is = after-one _ _ _ _ _ (other (back8 .before .before)) (done z .is); canonical = done z .canonical }
 
 same-length-4 : tie.Need-same-length-4
 same-length-4 c = search needs
 
 returns-2 : tie.Need-returns-2
 returns-2 c =
+    let back8 = c .before .before .before .before .before .before .before .before in
     let known = c .before .before .before .before in
-    let a = c .before .before .before .before .before .before .before .before .before .before .before .before .before .args in
-    let clear = sym (place-read (a .setup) (a .tables .now) (a .d) (a .v) (c .before .before .before .before .before .before .before .before .page-number .ensures .is) (c .before .before .before .before .before .before .place-at .ensures (a .setup .pages))) ∙ known .place .given .1 in
+    let a = back8 .before .before .before .before .before .args in
+    let clear = sym (place-read (a .setup) (a .tables .now) (a .d) (a .v) (back8 .page-number .ensures .is)
+    (c .before .before .before .before .before .before .place-at .ensures (a .setup .pages))) ∙ known .place .given .1 in
     λ z. record {
       is = after-none _ _ _ _ _ (first-home _ _ _ clear (c .if1 .taken)) (brought-clear _ _ _ _ _ _ _ clear);
       canonical = λ h. h;
@@ -118,10 +124,12 @@ same-length-7 c = search needs
 
 returns-3 : tie.Need-returns-3
 returns-3 c =
-    let one = c .before .before .before .before .before .before .before .before .before .before .before .before .before .before .before .before .seal .ensures in
+    let back8 = c .before .before .before .before .before .before .before .before in
+    let back16 = back8 .before .before .before .before .before .before .before .before in
+    let one = back16 .seal .ensures in
     let two = c .before .before .before .before .before .before .seal-and-unveil2 .ensures in
     λ z. record {
-      is = after-two _ _ _ _ _ _ (away (c .before .before .before .before .before .before .before .before .before .before .before .before .before .before .before .before .before .before .before .before)) (one z .is) (two z .is);
+      is = after-two _ _ _ _ _ _ (away (back16 .before .before .before .before)) (one z .is) (two z .is);
       canonical = λ h. two z .canonical (one z .canonical h);
     }
 

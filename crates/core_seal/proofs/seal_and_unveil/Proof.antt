@@ -18,7 +18,10 @@ abbrev after : tie.After-place → tie.After-seal
 after c = c .before .before .before .before .before .before .before .before .before .before .before
 
 abbrev entry : tie.After-place → tie.Start
-entry c = c .before .before .before .before .before .before .before .before .before .before .before .before .before .before .before .before .before .before .before
+entry c =
+    let back8 = c .before .before .before .before .before .before .before .before in
+    let back16 = back8 .before .before .before .before .before .before .before .before in
+    back16 .before .before .before
 
 abbrev words : tie.After-place → List ℕ
 words c = (after c) .seal .last .1 .1 .0
@@ -27,7 +30,8 @@ sealed : (c : tie.After-place)
     → placeOf ((entry c) .args .setup) (tablesIn ((entry c) .args .setup .pages) (words c)) ((entry c) .args .d) ((entry c) .args .v)
     ≡ Sealed (c .place .given .0 .0)
 sealed c =
-    sym (place-read ((entry c) .args .setup) (words c) _ _ (c .before .before .before .before .page-number .ensures .is) (c .before .before .place-at .ensures ((entry c) .args .setup .pages)))
+    sym (place-read ((entry c) .args .setup) (words c) _ _ (c .before .before .before .before .page-number .ensures .is)
+    (c .before .before .place-at .ensures ((entry c) .args .setup .pages)))
     ∙ c .place .given .1
 
 seal-requires : tie.Need-seal-requires
@@ -55,9 +59,12 @@ same-length-3 c = search needs
 
 returns : tie.Need-returns
 returns c =
-    let one = c .before .before .before .before .before .before .before .before .before .before .seal .ensures in
-    let a = c .before .before .before .before .before .before .before .before .before .before .before .before .before .before .before .before .before .before .args in
-    let read = place-read (a .setup) (c .before .before .before .before .before .before .before .before .before .before .seal .last .1 .1 .0) (a .d) (a .v) (c .before .before .before .page-number .ensures .is) (c .before .place-at .ensures (a .setup .pages)) in
+    let back8 = c .before .before .before .before .before .before .before .before in
+    let back16 = back8 .before .before .before .before .before .before .before .before in
+    let one = back8 .before .before .seal .ensures in
+    let a = back16 .before .before .args in
+    let read = place-read (a .setup) (back8 .before .before .seal .last .1 .1 .0) (a .d) (a .v)
+    (c .before .before .before .page-number .ensures .is) (c .before .place-at .ensures (a .setup .pages)) in
     λ z. record {
       is = brought-open _ _ _ _ (one z .is) (rw read at (c .match .keys2));
       canonical = one z .canonical;
@@ -67,7 +74,8 @@ unveil-requires : tie.Need-unveil-requires
 unveil-requires c κs =
     let known = c .before .before .before .before in
     let h = (entry known) .pre in
-    unveil-asked _ _ _ _ _ _ _ _ _ _ _ h (h .reached .frame) [] ((after known) .seal .result) _ ((after known) .seal .kept .1 .1 .0) ((after known) .seal .ensures [] .canonical)
+    unveil-asked _ _ _ _ _ _ _ _ _ _ _ h (h .reached .frame) [] ((after known) .seal .result) _ ((after known) .seal .kept .1 .1 .0)
+    ((after known) .seal .ensures [] .canonical)
     ((after known) .seal .ensures [] .is) _ (sealed known)
 
 same-length-4 : tie.Need-same-length-4

@@ -42,11 +42,14 @@ same-length-2 c = search needs
 
 returns : tie.Need-returns
 returns c =
-    let bytes = c .before .before .before .before .before .before .before .before .unveil-bytes .ensures in
+    let back8 = c .before .before .before .before .before .before .before .before in
+    let back16 = back8 .before .before .before .before .before .before .before .before in
+    let bytes = back8 .unveil-bytes .ensures in
     let moved = c .before .before .before .put-move .ensures in
     λ z. record {
       is =
-          unveil-done _ _ _ _ _ (c .before .before .before .before .before .before .before .before .before .before .before .before .before .before .before .before .args .work) _ _ _ z _ (c .before .before .before .before .before .before .before .before .before .before .before .page-number .ensures .is) (bytes .compared) (bytes .frames-left)
+          unveil-done _ _ _ _ _ (back16 .args .work) _ _ _ z _ (back8 .before .before .before .page-number .ensures .is)
+          (bytes .compared) (bytes .frames-left)
           (c .before .before .before .before .before .if1 .taken)
           moved;
       canonical = moved .canonical;
@@ -66,11 +69,14 @@ same-length-4 c = search needs
 
 returns-2 : tie.Need-returns-2
 returns-2 c =
-    let bytes = c .before .before .before .before .before .before .before .before .unveil-bytes .ensures in
-    let marked = c .before .before .put-life .ensures (c .before .before .before .before .before .before .before .before .before .before .before .before .before .before .before .before .args .setup .pages) in
+    let back8 = c .before .before .before .before .before .before .before .before in
+    let back16 = back8 .before .before .before .before .before .before .before .before in
+    let bytes = back8 .unveil-bytes .ensures in
+    let marked = c .before .before .put-life .ensures (back16 .args .setup .pages) in
     λ z. record {
       is =
-          unveil-failed _ _ _ _ _ (c .before .before .before .before .before .before .before .before .before .before .before .before .before .before .before .before .args .work) _ _ _ z _ (c .before .before .before .before .before .before .before .before .before .before .before .page-number .ensures .is) (bytes .compared) (bytes .frames-left)
+          unveil-failed _ _ _ _ _ (back16 .args .work) _ _ _ z _ (back8 .before .before .before .page-number .ensures .is)
+          (bytes .compared) (bytes .frames-left)
           (c .before .before .before .before .before .if1 .left)
           marked;
       canonical = marked .canonical;

@@ -31,7 +31,8 @@ section-requires-3 : tie.Need-section-requires-3
 section-requires-3 c κs = let r = room _ (c .before .before .before .before .before .before .pre .1) in omega arith
 
 untouched-requires : tie.Need-untouched-requires
-untouched-requires c κs = let r = room _ (c .before .before .before .before .before .before .before .pre .1) in (c .before .before .before .before .before .before .before .pre .0, r .all, omega arith)
+untouched-requires c κs = let r = room _ (c .before .before .before .before .before .before .before .pre .1) in
+    (c .before .before .before .before .before .before .before .pre .0, r .all, omega arith)
 
 cast-excess : tie.Need-cast-excess
 cast-excess c = let r = room _ (c .before .before .before .before .before .before .before .before .before .pre .1) in omega arith
@@ -41,8 +42,10 @@ excess-requires c κs = search needs
 
 returns : tie.Need-returns
 returns c =
-    let a = c .before .before .before .before .before .before .before .before .before .before in
-    early-tells (a .args .setup) (a .args .tables .now) (c .before .before .before .before .before .before .section .ensures) (c .before .before .before .before .section2 .ensures) (c .before .before .before .section3 .ensures)
+    let back8 = c .before .before .before .before .before .before .before .before in
+    let a = back8 .before .before in
+    early-tells (a .args .setup) (a .args .tables .now) (c .before .before .before .before .before .before .section .ensures)
+    (c .before .before .before .before .section2 .ensures) (c .before .before .before .section3 .ensures)
     (c .before .before .untouched .ensures)
     (excess-tells _ _ (c .excess .ensures))
 

@@ -27,7 +27,8 @@ late-requires c κs =
     (a .pre .0, r .frames, r .all, c .before .before .early .ensures .holds (c .before .if1 .left) .frames .below)
 
 empty-bare-requires : tie.Need-empty-bare-requires
-empty-bare-requires c κs = let a = c .before .before .before .before .before in let r = room _ (a .pre .1) in (a .pre .0, r .pages, r .domains)
+empty-bare-requires c κs = let a = c .before .before .before .before .before in let r = room _ (a .pre .1) in
+    (a .pre .0, r .pages, r .domains)
 
 returns-2 : tie.Need-returns-2
 returns-2 c =

@@ -19,7 +19,8 @@ activity-in-requires : tie.Need-activity-in-requires
 activity-in-requires c κs = search needs
 
 returns : tie.Need-returns
-returns c = λ v. c .activity-in .ensures ∙ sym (ap (λ (r : ContextRecord). r .activity) (context-there v _ _ (c .before .before .before .pre .1)))
+returns c = λ v. c .activity-in .ensures ∙ sym
+    (ap (λ (r : ContextRecord). r .activity) (context-there v _ _ (c .before .before .before .pre .1)))
 
 pub activity-at-spec : {M : Type 1} → statement M
 activity-at-spec =

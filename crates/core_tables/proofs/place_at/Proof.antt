@@ -28,7 +28,8 @@ place-in-requires : tie.Need-place-in-requires
 place-in-requires c κs = search needs
 
 returns : tie.Need-returns
-returns c = λ v. c .place-in .ensures ∙ sym (ap (λ (r : PageRecord). r .place) (page-there v _ _ (c .before .before .before .before .pre .1)))
+returns c = λ v. c .place-in .ensures ∙ sym
+    (ap (λ (r : PageRecord). r .place) (page-there v _ _ (c .before .before .before .before .pre .1)))
 
 pub place-at-spec : {M : Type 1} → statement M
 place-at-spec =

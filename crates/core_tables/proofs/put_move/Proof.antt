@@ -15,7 +15,10 @@ same-length : tie.Need-same-length
 same-length c = search needs
 
 returns : tie.Need-returns
-returns c = let a = c .before .before .before .before .before .before .before .before .before .args in then (setNames (a .frame) (a .names)) (c .before .before .before .before .before .before .put-place .ensures (a .pages)) (c .before .before .put-names .ensures)
+returns c =
+    let back8 = c .before .before .before .before .before .before .before .before in
+    let a = back8 .before .args in then (setNames (a .frame) (a .names))
+    (c .before .before .before .before .before .before .put-place .ensures (a .pages)) (c .before .before .put-names .ensures)
 
 pub put-move-spec : {M : Type 1} → statement M
 put-move-spec = tie.close (tie.spec put-place-requires put-names-requires same-length returns)

@@ -14,7 +14,10 @@ same-length : tie.Need-same-length
 same-length c = search needs
 
 returns : tie.Need-returns
-returns c = λ v. let a = c .before .before .before .before .before .before .before .before .before in then-place v _ _ (a .pre .1) (c .before .before .before .before .before .before .put-mapping .ensures v) (c .before .before .put-place .ensures v)
+returns c =
+    let back8 = c .before .before .before .before .before .before .before .before in
+    λ v. let a = back8 .before in then-place v _ _ (a .pre .1)
+    (c .before .before .before .before .before .before .put-mapping .ensures v) (c .before .before .put-place .ensures v)
 
 pub put-page-spec : {M : Type 1} → statement M
 put-page-spec = tie.close (tie.spec put-mapping-requires put-place-requires same-length returns)

@@ -35,7 +35,8 @@ same-length : tie.Need-same-length
 same-length c = search needs
 
 returns : tie.Need-returns
-returns c = λ v. let a = c .before .before .before in rw (c .sign-word .ensures, c .before .home-word .ensures .0) (put-place v _ (a .pre .0) _ _ _ _ (a .pre .1) (place-code _ (c .before .home-word .ensures .1)))
+returns c = λ v. let a = c .before .before .before in rw (c .sign-word .ensures, c .before .home-word .ensures .0)
+    (put-place v _ (a .pre .0) _ _ _ _ (a .pre .1) (place-code _ (c .before .home-word .ensures .1)))
 
 pub put-place-spec : {M : Type 1} → statement M
 put-place-spec =

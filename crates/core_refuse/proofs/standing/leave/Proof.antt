@@ -45,16 +45,21 @@ fit-requires c κs = search needs
 returns : tie.Need-returns
 unfolding row acting running notStopped needed allOf
 returns c =
-    let a = c .before .before .before .before .before .before .before .before .before .args in
+    let back8 = c .before .before .before .before .before .before .before .before in
+    let a = back8 .before .args in
     let v = a .setup .pages in
     none-needed (a .setup) (tablesIn v (a .tables .now)) (Leave (a .c)) (c .fit .result)
     (rw (
       and-true,
       ← rw (c .before .before .before .before .before .before .activity-at .ensures v) at (c .before .before .is-running .ensures),
-      ← rw (c .before .before .before .life-at .ensures v, c .before .before .before .before .before .domain .ensures, c .before .before .before .before .before .before .activity-at .ensures v) at (c .before .is-stopped .ensures),
+      ← rw (
+        c .before .before .before .life-at .ensures v,
+        c .before .before .before .before .before .domain .ensures,
+        c .before .before .before .before .before .before .activity-at .ensures v,
+      ) at (c .before .is-stopped .ensures),
     )
     (c .fit .ensures))
-    (c .before .before .before .before .before .before .before .before .before .pre .0 .agreed .used)
+    (back8 .before .pre .0 .agreed .used)
     refl
 
 pub leave-spec : {M : Type 1} → statement M

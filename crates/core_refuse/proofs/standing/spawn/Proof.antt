@@ -55,17 +55,22 @@ fit-requires c κs = search needs
 returns : tie.Need-returns
 unfolding row acting running notStopped needed
 returns c =
-    let a = c .before .before .before .before .before .before .before .before .before .before .before .before .before .args in
+    let back8 = c .before .before .before .before .before .before .before .before in
+    let a = back8 .before .before .before .before .before .args in
     let v = a .setup .pages in
     none-needed (a .setup) (tablesIn v (a .tables .now)) (Spawn (a .c) (a .u)) (c .fit .result)
     (rw (
-      ← rw (c .before .before .before .before .before .before .before .before .before .before .activity-at .ensures v) at (c .before .before .before .before .is-running .ensures),
+      ← rw (back8 .before .before .activity-at .ensures v) at (c .before .before .before .before .is-running .ensures),
       ← rw (c .before .before .before .before .before .activity-at2 .ensures v) at (c .before .before .before .is-free .ensures),
-      ← rw (c .before .before .before .before .before .before .before .life-at .ensures v, c .before .before .before .before .before .before .before .before .before .domain .ensures, c .before .before .before .before .before .before .before .before .before .before .activity-at .ensures v) at (c .before .is-stopped .ensures),
+      ← rw (
+        c .before .before .before .before .before .before .before .life-at .ensures v,
+        back8 .before .domain .ensures,
+        back8 .before .before .activity-at .ensures v,
+      ) at (c .before .is-stopped .ensures),
       ← c .before .before .both .ensures,
     )
     (c .fit .ensures))
-    (c .before .before .before .before .before .before .before .before .before .before .before .before .before .pre .0 .agreed .used)
+    (back8 .before .before .before .before .before .pre .0 .agreed .used)
     refl
 
 pub spawn-spec : {M : Type 1} → statement M

@@ -70,10 +70,12 @@ signatures c =
 
 clear : (c : tie.After-is-clear-in) → let s = start (c .before .before .before) in
     c .is-clear-in .result
-    ≡ isClearIn (ownFrame (s .args .setup) (held s) (s .args .c) (s .args .v)) (ownPlace (s .args .setup) (held s) (s .args .c) (s .args .v))
+    ≡ isClearIn (ownFrame (s .args .setup) (held s) (s .args .c) (s .args .v))
+    (ownPlace (s .args .setup) (held s) (s .args .c) (s .args .v))
 unfolding ownPlace
 clear c =
-    rw (← framed (c .before)) (rw (c .before .before .before .before .before .before .before .own-records .ensures) at (c .is-clear-in .ensures))
+    rw (← framed (c .before)) (rw (c .before .before .before .before .before .before .before .own-records .ensures) at
+    (c .is-clear-in .ensures))
 
 own-records-requires : tie.Need-own-records-requires
 own-records-requires c κs = search needs
@@ -138,6 +140,7 @@ spare-requires c κs = search needs
 returns-3 : tie.Need-returns-3
 unfolding row touching onPage ownPlace
 returns-3 c =
+    let back8 = c .before .before .before .before .before .before .before .before in
     let framed-there = c .before .before .before .before .before .before in
     let s = start (framed-there .before .before) in
     let elsewhere = sym (clear (c .before .before .before .before .before)) ∙ c .before .before .before .before .if2 .left in
@@ -146,7 +149,7 @@ returns-3 c =
     (rw (
       signatures framed-there,
       elsewhere,
-      ← rw (c .before .before .before .before .before .before .before .before .before .before .before .before .own-records .ensures) at (c .before .before .before .takes .ensures),
+      ← rw (back8 .before .before .before .before .own-records .ensures) at (c .before .before .before .takes .ensures),
       ← framed framed-there,
       ← c .before .before .takes-named .ensures,
       ← c .before .used-at .ensures (s .args .setup .pages),

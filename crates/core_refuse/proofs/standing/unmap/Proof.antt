@@ -33,15 +33,17 @@ fit-requires c κs = search needs
 returns : tie.Need-returns
 unfolding row onRecords needed
 returns c =
-    let a = c .before .before .before .before .before .before .before .before .args in
+    let back8 = c .before .before .before .before .before .before .before .before in
+    let a = back8 .args in
     let v = a .setup .pages in
     none-needed (a .setup) (tablesIn v (a .tables .now)) (Unmap (a .d) (a .v)) (c .fit .result)
     (rw (
       ← rw (c .before .before .before .before .before .life-at .ensures v) at (c .before .before .is-empty .ensures),
-      ← rw (c .before .before .before .mapping-at .ensures v, c .before .before .before .before .page-number .ensures .is) at (c .before .is-mapped .ensures),
+      ← rw (c .before .before .before .mapping-at .ensures v, c .before .before .before .before .page-number .ensures .is) at
+          (c .before .is-mapped .ensures),
     )
     (c .fit .ensures))
-    (c .before .before .before .before .before .before .before .before .pre .0 .agreed .used)
+    (back8 .pre .0 .agreed .used)
     refl
 
 pub unmap-spec : {M : Type 1} → statement M

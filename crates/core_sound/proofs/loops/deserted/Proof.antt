@@ -34,7 +34,8 @@ loop-less : tie.Need-loop-less Inv-loop μ-loop
 loop-less c = search needs
 
 loop-again : tie.Need-loop-again Inv-loop μ-loop
-loop-again c = let l = c .before .before .before .loop in (omega arith, omega arith, each-more _ _ (l .i) (l .inv .0) (l .inv .2) (c .inside .ensures))
+loop-again c = let l = c .before .before .before .loop in
+    (omega arith, omega arith, each-more _ _ (l .i) (l .inv .0) (l .inv .2) (c .inside .ensures))
 
 returns : tie.Need-returns Inv-loop μ-loop
 returns c = let l = c .before .loop in counted (omega arith) (l .inv .2)

@@ -14,7 +14,8 @@ pages-kept-requires : tie.Need-pages-kept-requires
 pages-kept-requires c κs = search needs
 
 returns : tie.Need-returns
-returns c = late-told _ _ _ _ (c .before .before .lay-out .ensures .0) (both (c .before .before .lay-out .ensures .1) (c .pages-kept .ensures))
+returns c = late-told _ _ _ _ (c .before .before .lay-out .ensures .0)
+    (both (c .before .before .lay-out .ensures .1) (c .pages-kept .ensures))
 
 pub late-spec : {M : Type 1} → statement M
 late-spec = tie.close (tie.spec lay-out-requires pages-kept-requires returns)

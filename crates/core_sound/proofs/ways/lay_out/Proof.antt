@@ -19,7 +19,8 @@ abbrev μ-loop : tie.MeasureT-loop
 μ-loop tables frames held₀ any₀ f₀ held any f = frames - f
 
 loop-holds : tie.Need-loop-holds Inv-loop μ-loop
-loop-holds c = let a = c .before in (omega arith, rw (a .pre .2) (length-replicate {A = ℕ} 257 0), holds-none _ _ 257 (a .pre .2), each-none _ _)
+loop-holds c = let a = c .before in
+    (omega arith, rw (a .pre .2) (length-replicate {A = ℕ} 257 0), holds-none _ _ 257 (a .pre .2), each-none _ _)
 
 add-at : tie.Need-add-at Inv-loop μ-loop
 add-at c = search needs
@@ -55,7 +56,8 @@ mul-differing : tie.Need-mul-differing Inv-loop μ-loop
 mul-differing c = omega (arith, c .before .before .before .before .pre .3 (c .before .before .loop .f) (omega arith))
 
 shared-slice-read-differing : tie.Need-shared-slice-read-differing Inv-loop μ-loop
-shared-slice-read-differing c = omega (arith, c .before .before .before .before .before .pre .3 (c .before .before .before .loop .f) (omega arith))
+shared-slice-read-differing c = omega
+    (arith, c .before .before .before .before .before .pre .3 (c .before .before .before .loop .f) (omega arith))
 
 differing-requires : tie.Need-differing-requires Inv-loop μ-loop
 differing-requires c κs = search needs
@@ -67,7 +69,14 @@ loop-less : tie.Need-loop-less Inv-loop μ-loop
 loop-less c = search needs
 
 loop-again : tie.Need-loop-again Inv-loop μ-loop
-loop-again c = let l = c .before .before .before .before .loop in (omega arith, rw length-set (l .inv .1), holds-more _ _ (l .f) (l .inv .2) (omega (arith, c .before .before .before .before .before .before .pre .3 (l .f) (omega arith))), each-more _ _ (l .f) (omega arith) (l .inv .3) (names-home (c .before .before .before .before .before .before .args .tables .now) (l .f) (c .differing .ensures)))
+loop-again c = let l = c .before .before .before .before .loop in (
+  omega arith,
+  rw length-set (l .inv .1),
+  holds-more _ _ (l .f) (l .inv .2)
+      (omega (arith, c .before .before .before .before .before .before .pre .3 (l .f) (omega arith))),
+  each-more _ _ (l .f) (omega arith)
+      (l .inv .3) (names-home (c .before .before .before .before .before .before .args .tables .now) (l .f) (c .differing .ensures)),
+)
 
 returns : tie.Need-returns Inv-loop μ-loop
 returns c =

@@ -76,11 +76,17 @@ loop-less c = search needs
 
 loop-again : tie.Need-loop-again Inv-loop μ-loop
 loop-again c =
+    let back8 = c .before .before .before .before .before .before .before .before in
     let l = c .before .before .before .before .before .before .before in
-    let a = c .before .before .before .before .before .before .before .before .before .before .args in
+    let a = back8 .before .before .args in
     let m = rw (l .loop .inv .2) at (c .before .before .before .before .excess .ensures) in
-    let s = rw (l .loop .inv .1) at (c .before .before .excess2 .ensures) in
-    (omega arith, l .loop .inv .1, l .loop .inv .2, each-more _ _ (l .loop .i) (omega arith) (l .loop .inv .3) (kept-tells (a .tables .now) _ _ (l .loop .i) m s))
+    let s = rw (l .loop .inv .1) at (c .before .before .excess2 .ensures) in (
+      omega arith,
+      l .loop .inv .1,
+      l .loop .inv .2,
+      each-more _ _ (l .loop .i) (omega arith) (l .loop .inv .3)
+          (kept-tells (a .tables .now) _ _ (l .loop .i) m s),
+    )
 
 returns : tie.Need-returns Inv-loop μ-loop
 returns c = let l = c .before .loop in counted-zero (omega arith) (l .inv .3)

@@ -34,7 +34,8 @@ same-length c = search needs
 returns : tie.Need-returns
 returns c = let a = c .before .before .before .before .before .before in
     let h = a .pre in
-    rw (put-overlay (8 * a .args .i) (8 * a .args .i + 8) (a .args .words .now) (a .args .saved .now) (c .before .before .copy .ensures) (omega (arith, h .3)) (omega (arith, h .0, h .1, h .2)))
+    rw (put-overlay (8 * a .args .i) (8 * a .args .i + 8) (a .args .words .now) (a .args .saved .now) (c .before .before .copy .ensures)
+    (omega (arith, h .3)) (omega (arith, h .0, h .1, h .2)))
     (put-saved _ _ (h .3) _ _ (h .2) (h .0))
 
 pub put-saved-spec : {M : Type 1} → statement M

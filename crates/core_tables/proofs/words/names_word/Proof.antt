@@ -20,7 +20,8 @@ returns c = rw (c .enum-told .given .1) (nothing-code _)
 
 returns-2 : tie.Need-returns-2
 unfolding NamesFit
-returns-2 c = rw (c .before .before .n .given .1, c .numbered .ensures) (named-code _ _ _ (omega arith) (rw (c .before .before .n .given .1) at (c .before .before .before .before .pre .2)))
+returns-2 c = rw (c .before .before .n .given .1, c .numbered .ensures)
+    (named-code _ _ _ (omega arith) (rw (c .before .before .n .given .1) at (c .before .before .before .before .pre .2)))
 
 pub names-word-spec : {M : Type 1} → statement M
 names-word-spec = tie.close (tie.spec enum-told enum-known-n numbered-requires returns returns-2)

@@ -19,7 +19,8 @@ enum-known-wear c = search needs
 
 add-result : tie.Need-add-result
 unfolding signWord PlaceFits
-add-result c = let h = rw (c .before .before .before .before .p .given .1, c .before .wear .given .1) at (c .before .before .before .before .before .before .pre) in omega arith
+add-result c = let h = rw (c .before .before .before .before .p .given .1, c .before .wear .given .1) at
+    (c .before .before .before .before .before .before .pre) in omega arith
 
 enum-known-p-2 : tie.Need-enum-known-p-2
 enum-known-p-2 c = search needs
