@@ -9,8 +9,10 @@ use lib.Dec.{T, ltb, ltb→lt}
 use borrow.Author.Tests.{eq-eqb, le-ltb}
 use Rattle.rules.specs.Bytes.{sameBytes, zeros}
 use Rattle.rules.specs.Sizes.{setupInRange, domainIn, pageIn, frameIn, maxContexts}
-use Rattle.rules.specs.Records.{freeContext, openFrame, publicPage, zeroRegisters, domainWhere, frameWhere, isFree, isUnmapped, isPublic, namesNone}
-use Rattle.rules.specs.Sound.{begun, activitySound, contextSound, savedSound, mappingSound, placeSound, untouched, ownedSound, pageSound, namesSound, frameSound, sound}
+use Rattle.rules.specs.Records.{freeContext, openFrame, publicPage, zeroRegisters, domainWhere, frameWhere, isFree, isUnmapped}
+use Rattle.rules.specs.Records.{isPublic, namesNone}
+use Rattle.rules.specs.Sound.{begun, activitySound, contextSound, savedSound, mappingSound, placeSound, untouched, ownedSound}
+use Rattle.rules.specs.Sound.{pageSound, namesSound, frameSound, sound}
 use Rattle.rules.specs.Asked.{Limited}
 use Rattle.rules.proofs.Facts.{limited, Shaped, shaped}
 use Rattle.rules.proofs.Tests.{each, all, passed, passes, all-at, same-bytes}

@@ -6,7 +6,8 @@ use Prim.Native.Nat.{ℕ, zero, suc, _+_, _-_, _*_, _≤_, _<_}
 use native.Mathlib.Nat.{zero-add, add-zero, add-comm}
 use native.Mathlib.Decide.{decLt}
 use native.Mathlib.Omega.{arith}
-use lib.ListN.{length, getD, take, drop, replicate, length-append, length-map, length-drop, length-replicate, getD-replicate, take-append-drop, List·getD-eq-default}
+use lib.ListN.{length, getD, take, drop, replicate, length-append, length-map, length-drop, length-replicate, getD-replicate}
+use lib.ListN.{take-append-drop, List·getD-eq-default}
 use lib.Seq.{length-take-le, drop-at, take-at, getD-drop, drop-drop, ext-getD}
 use Rattle.rules.specs.Sizes.{maxDomains, maxContexts, maxFrames}
 use Rattle.rules.specs.Records.{emptyDomain, freeContext, openFrame, publicPage, zeroRegisters, domainWhere, frameWhere, tables}
@@ -27,9 +28,13 @@ use Rattle.rules.specs.declared.Mapping.{Mapping}
 use Rattle.rules.specs.declared.Mapping.the-variants.{Unmapped, Mapped}
 use Rattle.rules.specs.declared.Named.{Named}
 use Rattle.rules.specs.declared.Named.the-variants.{Nothing, Page}
-use Rattle.core_tables.specs.Words.{lifeIn, lifeWord, activityIn, activityWord, namesIn, namesWord, mappingIn, mappingWord, homeWord, signWord, Housed}
-use Rattle.core_tables.specs.Image.{imageWords, domainsAt, contextsAt, framesAt, mappedAt, homeAt, signAt, usedAt, maxEntries, wordAt, table, domainAt, contextAt, frameAt, pageAt, tablesIn, imageOf, registersIn, savedIn, savedWords, Canonical}
-use Rattle.core_tables.proofs.Codes.{empty-code, live-code, stopped-code, free-code, running-code, interrupt-code, call-code, nothing-code, named-code, unmapped-code, mapped-code, place-code}
+use Rattle.core_tables.specs.Words.{lifeIn, lifeWord, activityIn, activityWord, namesIn, namesWord, mappingIn, mappingWord}
+use Rattle.core_tables.specs.Words.{homeWord, signWord, Housed}
+use Rattle.core_tables.specs.Image.{imageWords, domainsAt, contextsAt, framesAt, mappedAt, homeAt, signAt, usedAt, maxEntries}
+use Rattle.core_tables.specs.Image.{wordAt, table, domainAt, contextAt, frameAt, pageAt, tablesIn, imageOf, registersIn}
+use Rattle.core_tables.specs.Image.{savedIn, savedWords, Canonical}
+use Rattle.core_tables.proofs.Codes.{empty-code, live-code, stopped-code, free-code, running-code, interrupt-code, call-code}
+use Rattle.core_tables.proofs.Codes.{nothing-code, named-code, unmapped-code, mapped-code, place-code}
 use Rattle.core_tables.proofs.Images.{image-canonical}
 use Rattle.core_tables.proofs.Registers.{length-saved, saved-there, saved-past}
 

@@ -25,7 +25,8 @@ use Rattle.rules.specs.declared.Life.the-variants.{Stopped}
 use Rattle.rules.specs.declared.Place.{Place}
 use Rattle.rules.specs.declared.Place.the-variants.{Public, Clear, Sealed}
 use Rattle.rules.specs.declared.Event.{Event}
-use Rattle.rules.specs.declared.Event.the-variants.{Begin, End, Map, Unmap, KernelRead, KernelWrite, Resume, Spawn, Leave, Cloak, Uncloak, Read, Write, Trap}
+use Rattle.rules.specs.declared.Event.the-variants.{Begin, End, Map, Unmap, KernelRead, KernelWrite, Resume, Spawn, Leave, Cloak}
+use Rattle.rules.specs.declared.Event.the-variants.{Uncloak, Read, Write, Trap}
 use Rattle.rules.proofs.Facts.{each}
 use Rattle.rules.proofs.Tests.{frame-below}
 use Rattle.rules.proofs.Lists.{length-mapFrom}

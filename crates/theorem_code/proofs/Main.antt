@@ -31,7 +31,8 @@ use Rattle.theorem_secrecy.specs.Secrets as rule-secrets
 use Rattle.theorem_secrecy.specs.TwoServices.{one, other}
 use Rattle.theorem_freshness.specs.Past.{contextBy, pageBy, resumedWith}
 use Rattle.theorem_freshness.specs.Stale.{Touch, touch, touched, Distinct, bears}
-use Rattle.theorem_code.specs.Calls.{Memory, WordsRight, MayStep, MaySteps, CodeRun, OneImage, lastOf, point, tablesLeft, held, anyMemory}
+use Rattle.theorem_code.specs.Calls.{Memory, WordsRight, MayStep, MaySteps, CodeRun, OneImage, lastOf, point, tablesLeft}
+use Rattle.theorem_code.specs.Calls.{held, anyMemory}
 use Rattle.theorem_code.specs.Told.{asking, handedOn, ten, answerBytes, DifferOnlyInSecrets, SameRuns, pastOf, Stopping}
 use Rattle.theorem_code.proofs.Calls.{runs-on, start-left}
 use Rattle.theorem_code.proofs.Stands.{is-held, one-image, step-left}
@@ -150,8 +151,8 @@ module _ {g : Given} {lent : Memory} {asks : List Ask} (r : CodeRun g lent asks)
 -- Secrecy: what the administrator of the guest kernel can learn of the service's memory.
 
 -- That the events of two runs of the code differ only in secrets says the same as of the rules' runs: the moment's tables are the same.
-pub code-secrets : {g : Given} {lent : Memory} {asks : List Ask} (r : CodeRun g lent asks) → WordsRight (g .setup) lent → (others : List Ask)
-    → DifferOnlyInSecrets (g .setup) (r .first) (r .lefts) asks others
+pub code-secrets : {g : Given} {lent : Memory} {asks : List Ask} (r : CodeRun g lent asks) → WordsRight (g .setup) lent
+    → (others : List Ask) → DifferOnlyInSecrets (g .setup) (r .first) (r .lefts) asks others
     ≡ rule-secrets.DifferOnlyInSecrets g (start g (lent .frames) (lent .store)) asks others
 code-secrets r right others = run-secrets r right others
 

@@ -7,8 +7,10 @@ use lib.ListN.{length, getD, set}
 use lib.Dec.{eqb}
 use Rattle.rules.specs.Bytes.{sameBytes, zeros, wordsIn, mapFrom}
 use Rattle.rules.specs.Sizes.{maxContexts}
-use Rattle.rules.specs.Records.{Given, Machine, machine, freshState, zeroRegisters, placeOf, namesOf, isIn, activityOf, domainOf, frameBytes, withLife, onTables}
-use Rattle.rules.specs.Sealing.{Effect, done, failed, andThen, signature, sealPage, sealAt, sealNamed, seal, sealAll, unveiled, unveil, bringInAt, bringIn}
+use Rattle.rules.specs.Records.{Given, Machine, machine, freshState, zeroRegisters, placeOf, namesOf, isIn, activityOf, domainOf}
+use Rattle.rules.specs.Records.{frameBytes, withLife, onTables}
+use Rattle.rules.specs.Sealing.{Effect, done, failed, andThen, signature, sealPage, sealAt, sealNamed, seal, sealAll, unveiled}
+use Rattle.rules.specs.Sealing.{unveil, bringInAt, bringIn}
 use Rattle.rules.specs.Events.{row, ended, spanBytes, storeSpan, cloaked, zeroIfClear, uncloaked, markedDirty, turned, does, ownFrame}
 use Rattle.rules.specs.Answers.{refusal, refused, performed, perform, outset, stepFrom, step, startRefusal, start}
 use Rattle.rules.specs.Runs.{Ask, after}
@@ -25,7 +27,8 @@ use Rattle.rules.specs.declared.Place.the-variants.{Public, Clear, Sealed}
 use Rattle.rules.specs.declared.Named.{Named}
 use Rattle.rules.specs.declared.Named.the-variants.{Nothing, Page}
 use Rattle.rules.specs.declared.Event.{Event}
-use Rattle.rules.specs.declared.Event.the-variants.{Begin, End, Map, Unmap, KernelRead, KernelWrite, Resume, Spawn, Leave, Cloak, Uncloak, Read, Write, Trap}
+use Rattle.rules.specs.declared.Event.the-variants.{Begin, End, Map, Unmap, KernelRead, KernelWrite, Resume, Spawn, Leave, Cloak}
+use Rattle.rules.specs.declared.Event.the-variants.{Uncloak, Read, Write, Trap}
 
 abbrev pub Eights : List Registers → Type 0
 Eights saved = (i : ℕ) → length ((getD saved i zeroRegisters) .words) ≡ 8
