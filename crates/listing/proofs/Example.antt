@@ -1,15 +1,10 @@
--- Document 01's example: the listing of its trace is its five lines, byte for byte, by computation. Assumes nothing.
+-- Document 01's example: the listing of its trace is its five lines, byte for byte, by computation.
 use mathlib.Core.Path.{_≡_, refl}
 use mathlib.Core.List.{List, [], _∷_, _++_}
 use Prim.Native.Nat.{ℕ}
-use Rattle.rules.proofs.Computing.{computing}
-use Rattle.trace_form.specs.Form.{widthsOf, headOf, valuesAt, eventOf}
-use Rattle.trace_form.specs.Header.{headerValues}
-use Rattle.trace_read.specs.Reading.{sizesWhole, sizesAt, headerAt, kindIn, hasEvent, eventAt, dataAt, headWhole, recordOf, readAt}
 use Rattle.trace_laws.specs.Example.{exampleTrace}
-use Rattle.listing_line.specs.Lines.{decimalIn, decimal, hex, countsThen, line, refusedLine}
-use Rattle.listing.specs.Opening.{productsFit, openingOf, openingAt}
-use Rattle.listing.specs.Listing.{isShown, shown, eventLine, eventListed, listedAs, listed, listedIn, listedFrom, textOf, linesFrom, startPoint, listingOf, listing}
+use Rattle.listing.specs.Listing.{listing}
+use Rattle.listing.proofs.Computing.{listing-computing}
 
 -- what document 01 says that it prints
 abbrev pub exampleListing : List ℕ
@@ -28,5 +23,5 @@ exampleListing =
     ++ (52 ∷ 32 ∷ 49 ∷ 49 ∷ 32 ∷ 48 ∷ 32 ∷ 48 ∷ 32 ∷ 49 ∷ 32 ∷ 49 ∷ 32 ∷ 45 ∷ 10 ∷ [])
 
 pub example-listing : listing exampleTrace ≡ exampleListing
-unfolding computing isShown eventListed headerAt sizesAt sizesWhole headerValues readAt kindIn hasEvent recordOf headWhole eventAt dataAt headOf widthsOf valuesAt eventOf decimalIn decimal hex countsThen line refusedLine productsFit openingOf openingAt shown eventLine listedAs listed listedIn listedFrom textOf linesFrom startPoint listingOf listing
+unfolding listing-computing
 example-listing = refl

@@ -1,4 +1,4 @@
--- Filling an output, line by line: what is known between two turns, and what is left at the end. Assumes nothing.
+-- Filling an output, line by line: what is known between two turns, and what is left at the end.
 use mathlib.Core.Path.{_≡_, refl, sym, ap, _∙_}
 use mathlib.Core.Bool.{Bool, true, false}
 use mathlib.Core.List.{List, [], _∷_, _++_, append-assoc, append-nil}
@@ -15,7 +15,7 @@ use Rattle.rules.specs.Bytes.{overlay, allOf}
 use Rattle.listing_line.specs.Lines.{Put}
 use Rattle.listing_line.proofs.Puts.{put-then}
 use Rattle.listing.specs.Listing.{Point, listed, listedFrom}
-use Rattle.listing.specs.Filling.{Lines, Fills, lineRoom, none, behind, fitting, fills, turns, filled}
+use Rattle.listing.specs.Filling.{Lines, Fills, numbersRoom, lineRoom, none, behind, fitting, fills, turns, filled}
 use Rattle.listing.proofs.Steps.{ahead, Onward, fitting-onward, fitting-end, fitting-full, fitting-more}
 
 abbrev pub fillsAt : ℕ → Point → List ℕ → Fills
@@ -27,37 +27,37 @@ linesOf text end = record { text = text; end = end }
 -- the test that the code makes
 module _ (place end room answer : ℕ) where
   abbrev test : Bool
-  test = allOf (ltb place end ∷ leb (128 + 2 * answer) room ∷ [])
+  test = allOf (ltb place end ∷ leb (lineRoom answer) room ∷ [])
 
   pub at-the-end : end ≤ place → false ≡ test
   unfolding allOf
   at-the-end h = rw (le-ltb place end h)
 
-  pub no-room-left : place < end → room < 128 → false ≡ test
+  pub no-room-left : place < end → room < numbersRoom → false ≡ test
   unfolding allOf
-  no-room-left h r = rw (lt-ltb place end h, lt-leb (128 + 2 * answer) room (omega arith))
+  no-room-left h r = rw (lt-ltb place end h, lt-leb (lineRoom answer) room (omega arith))
 
-  pub room-decides : place < end → 128 ≤ room → leb answer ((room - 128) / 2) ≡ test
+  pub room-decides : place < end → numbersRoom ≤ room → leb answer ((room - numbersRoom) / 2) ≡ test
   unfolding allOf
-  room-decides h r = rw (lt-ltb place end h) (go (decLt room (128 + 2 * answer)))
+  room-decides h r = rw (lt-ltb place end h) (go (decLt room (lineRoom answer)))
     where
-      go : Dec (room < 128 + 2 * answer) → leb answer ((room - 128) / 2) ≡ allOf (leb (128 + 2 * answer) room ∷ [])
-      go (yes l) = lt-leb answer ((room - 128) / 2) (omega arith) ∙ sym (rw (lt-leb (128 + 2 * answer) room l))
-      go (no l) = le-leb answer ((room - 128) / 2) (omega arith) ∙ sym (rw (le-leb (128 + 2 * answer) room (omega arith)))
+      go : Dec (room < lineRoom answer) → leb answer ((room - numbersRoom) / 2) ≡ allOf (leb (lineRoom answer) room ∷ [])
+      go (yes l) = lt-leb answer ((room - numbersRoom) / 2) (omega arith) ∙ sym (rw (lt-leb (lineRoom answer) room l))
+      go (no l) = le-leb answer ((room - numbersRoom) / 2) (omega arith) ∙ sym (rw (le-leb (lineRoom answer) room (omega arith)))
 
-  pub goes : {b : Bool} → b ≡ test → b ≡ true → (place < end) × (128 + 2 * answer ≤ room)
+  pub goes : {b : Bool} → b ≡ test → b ≡ true → (place < end) × (lineRoom answer ≤ room)
   goes e t =
-      let both = each (ltb place end ∷ leb (128 + 2 * answer) room ∷ []) (passed test (sym e ∙ t)) in
-      (ltb→lt place end (both .0), leb→le (128 + 2 * answer) room (both .1 .0))
+      let both = each (ltb place end ∷ leb (lineRoom answer) room ∷ []) (passed test (sym e ∙ t)) in
+      (ltb→lt place end (both .0), leb→le (lineRoom answer) room (both .1 .0))
 
-  stops : {b : Bool} → b ≡ test → b ≡ false → place < end → room < 128 + 2 * answer
+  stops : {b : Bool} → b ≡ test → b ≡ false → place < end → room < lineRoom answer
   unfolding allOf
-  stops e f h = go (decLt room (128 + 2 * answer))
+  stops e f h = go (decLt room (lineRoom answer))
     where
-      go : Dec (room < 128 + 2 * answer) → room < 128 + 2 * answer
+      go : Dec (room < lineRoom answer) → room < lineRoom answer
       go (yes l) = l
       go (no l) =
-          let never : true ≡ false = sym (rw (lt-ltb place end h, le-leb (128 + 2 * answer) room (omega arith)) at e) ∙ f in
+          let never : true ≡ false = sym (rw (lt-ltb place end h, le-leb (lineRoom answer) room (omega arith)) at e) ∙ f in
           let z : _≡_ {A = ℕ} 0 1 = cc in
           absurd (omega arith)
 
@@ -95,7 +95,7 @@ written-none p out h =
 
 -- a line more
 module _ {start p q : Point} {before out after : List ℕ} {count next : ℕ} (w : Written start p before out count)
-    (h : (p .run .place < length (p .trace)) × (128 + 2 * length (p .buffer) ≤ length out - count))
+    (h : (p .run .place < length (p .trace)) × (lineRoom (length (p .buffer)) ≤ length out - count))
     (turn : fillsAt next q after ≡ turns count (listed p) out) where
   abbrev line : List ℕ
   line = listed p .line
@@ -125,7 +125,7 @@ module _ {start p q : Point} {before out after : List ℕ} {count next : ℕ} (w
   one-text : (text : List ℕ) (x : Lines) → behind text (behind line x) ≡ behind (text ++ line) x
   one-text text x = ap (λ (t : List ℕ). linesOf t (x .end)) (sym (append-assoc text line (x .text)))
 
-  pub written-more : next ≤ count + 128 + 2 * length (p .buffer) → Written start q before after next
+  pub written-more : next ≤ count + lineRoom (length (p .buffer)) → Written start q before after next
   written-more short =
       record {
         text = w .text ++ line;
@@ -147,12 +147,15 @@ module _ (start : Point) (before : List ℕ) where
   unfolding filled overlay
   filled-not h = rw (lt-leb (start .run .index) (start .run .place) h)
 
-  pub written-all : {p : Point} {out : List ℕ} {count : ℕ} {b : Bool} → start .run .index ≤ start .run .place → Written start p before out count
+  pub written-all : {p : Point} {out : List ℕ} {count : ℕ} {b : Bool} → start .run .index ≤ start .run .place
+      → Written start p before out count
       → b ≡ test (p .run .place) (length (p .trace)) (length out - count) (length (p .buffer)) → b ≡ false
       → fillsAt count p out ≡ filled start before
   written-all {p} {out} {count} c w e f =
+      let no-more : fitting (length before - count) p (listedFrom p) ≡ none p =
+      ap (λ (k : ℕ). fitting (k - count) p (listedFrom p)) (sym (w .long)) ∙ full p (length out - count) e f in
       let all : fitting (length before) start (listedFrom start) ≡ linesOf (w .text) p =
-      w .rest ∙ ap (behind (w .text)) (ap (λ (k : ℕ). fitting (k - count) p (listedFrom p)) (sym (w .long)) ∙ full p (length out - count) e f) ∙ ap (λ (t : List ℕ). linesOf t p) (append-nil (w .text)) in
+      w .rest ∙ ap (behind (w .text)) no-more ∙ ap (λ (t : List ℕ). linesOf t p) (append-nil (w .text)) in
       let counted : count ≡ length (w .text) = w .put .ends ∙ zero-add (length (w .text)) in
       rw (counted, w .put .bytes) (sym (ap (λ (l : Lines). fills l before) all) ∙ filled-by c)
 
@@ -164,7 +167,8 @@ module _ (p : Point) (out : List ℕ) (c : p .run .index ≤ p .run .place) wher
   pub filled-counted : (filled p out .end) .run .index ≤ (filled p out .end) .run .place
   filled-counted = rw (sym (filled-by p out c)) (onward (length out) .counted)
 
-  pub filled-further : p .run .place < length (p .trace) → lineRoom p ≤ length out → p .run .place < (filled p out .end) .run .place
+  pub filled-further : p .run .place < length (p .trace) → lineRoom (length (p .buffer)) ≤ length out
+      → p .run .place < (filled p out .end) .run .place
   filled-further h f =
       let a = ahead p h in
       let next = listed p .next in
@@ -181,5 +185,5 @@ module _ (p : Point) (out : List ℕ) (c : p .run .index ≤ p .run .place) wher
     pub left-counted : q .run .index ≤ q .run .place
     left-counted = rw is-end filled-counted
 
-    pub left-further : p .run .place < length (p .trace) → lineRoom p ≤ length out → p .run .place < q .run .place
+    pub left-further : p .run .place < length (p .trace) → lineRoom (length (p .buffer)) ≤ length out → p .run .place < q .run .place
     left-further h f = rw is-end (filled-further h f)

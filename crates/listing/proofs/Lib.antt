@@ -1,3 +1,4 @@
+pub mod Computing
 pub mod Example
 pub mod Steps
 pub mod Showing

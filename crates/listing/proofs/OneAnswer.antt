@@ -1,5 +1,5 @@
--- Document 01, "What the promises have to say": each public function's promise leaves one answer, and one set of bytes. Stated over
--- what the checker itself reads of the function's `ensures`. Assumes nothing.
+-- Document 01, "What the promises have to say": each public function's promise leaves one answer, and one set of words
+-- and bytes. Stated over what the checker itself reads of the function's `ensures`.
 use mathlib.Core.Path.{sym, ap, _∙_}
 use mathlib.Core.List.{List, []}
 use Prim.Native.Nat.{ℕ}
@@ -17,7 +17,7 @@ wroteAs count out = record { count = count; out = out }
 
 -- what is told of a point and of a filled output, but for the trace, which no call changes
 abbrev told : Point → Point
-told p = point [] (p .run) (p .frames) (p .store) (p .buffer)
+told p = point [] (p .run) (p .tables) (p .saved) (p .frames) (p .store) (p .buffer)
 
 abbrev toldFills : Fills → Fills
 toldFills f = record { count = f .count; end = told (f .end); out = f .out }
@@ -28,10 +28,16 @@ opening-one κs a x y e f p q = p ∙ sym q
 pub refusal-one : OneSight 1 refusal.Kinds.ps refusal.Kinds.r refusal.Reads.Learnt Wrote (λ κs x e. wroteAs x (now (e .1 .0)))
 refusal-one κs a x y e f p q = p .0 ∙ sym (q .0)
 
-pub start-one : OneSight 3 start.Kinds.ps start.Kinds.r start.Reads.Learnt Point
-    (λ κs x e. point [] x (now (e .1 .1 .1 .0)) (now (e .1 .1 .1 .1 .0)) [])
+pub start-one : OneSight 5 start.Kinds.ps start.Kinds.r start.Reads.Learnt Point
+    (λ κs x e.
+    let lent = e .1 .1 .1 in
+    point [] x (now (lent .0)) (now (lent .1 .0)) (now (lent .1 .1 .0)) (now (lent .1 .1 .1 .0)) [])
 start-one κs a x y e f p q = ap told (p ∙ sym q)
 
-pub fill-one : OneSight 5 fill.Kinds.ps fill.Kinds.r fill.Reads.Learnt Fills
-    (λ κs x e. left x [] (now (e .1 .1 .0)) (now (e .1 .1 .1 .0)) (now (e .1 .1 .1 .1 .0)) (now (e .1 .1 .1 .1 .1 .0)))
+pub fill-one : OneSight 7 fill.Kinds.ps fill.Kinds.r fill.Reads.Learnt Fills
+    (λ κs x e.
+    let lent = e .1 .1 in
+    let bytes = lent .1 .1 in
+    left x [] (now (lent .0)) (now (lent .1 .0)) (now (bytes .0)) (now (bytes .1 .0)) (now (bytes .1 .1 .0))
+    (now (bytes .1 .1 .1 .0)))
 fill-one κs a x y e f p q = ap toldFills (p .0 ∙ sym (q .0))

@@ -1,4 +1,4 @@
--- The header's checks, each by the test that the code makes; and what a start leaves. Assumes nothing.
+-- The header's checks, each by the test that the code makes; and what a start leaves.
 use mathlib.Core.Path.{_≡_, refl, sym, ap, subst, _∙_}
 use mathlib.Core.Bool.{Bool, true, false, cond, and-true}
 use mathlib.Core.List.{List, []}
@@ -12,7 +12,7 @@ use Rattle.io.specs.Counts.{Counts}
 use borrow.Author.Tests.{lt-ltb, le-ltb, lt-leb, le-leb}
 use Rattle.rules.specs.Bytes.{allOf}
 use Rattle.rules.proofs.Facts.{each, passed, limited}
-use Rattle.rules.specs.Sizes.{setupInRange}
+use Rattle.rules.specs.Sizes.{setupInRange, maxSize, maxDomains, maxPages, maxContexts, maxFrames}
 use Rattle.rules.specs.declared.Setup.{Setup}
 use Rattle.rules.specs.Asked.{Limited}
 use Rattle.trace_form.specs.Header.{setupIn, headerValues}
@@ -21,23 +21,26 @@ use Rattle.trace_read.specs.Reading.{sizesOf, sizesWhole, sizesAt, headerAt}
 use Rattle.trace_read.proofs.Headers.{opened}
 use Rattle.trace_read.specs.declared.Header.{Header}
 use Rattle.trace_read.specs.declared.Header.the-variants.{Sizes, Refused}
-use Rattle.stepping.specs.Left.{Left}
-use Rattle.monitor.specs.Started.{started}
+use Rattle.core_answer.specs.Handed.{Left}
+use Rattle.core.specs.Started.{started}
 use Rattle.listing_line.specs.Lines.{refusedLine, Put}
 use Rattle.listing.specs.Listing.{Point, point, runAt, supplyOf, startPoint}
 use Rattle.listing.specs.declared.Run.{Run}
-use Rattle.listing.specs.Filling.{wrote, refusalWrote}
-use Rattle.listing.specs.Opening.{limit, framesLength, storeLength, productsFit, openingOf, openingAt}
+use Rattle.listing.specs.Filling.{numbersRoom, wrote, refusalWrote}
+use Rattle.listing.specs.Opening.{limit, savedLength, framesLength, storeLength, productsFit, openingOf, openingAt}
 
 -- the products of a setup within its limits can be counted
 module _ (s : Setup) (r : Limited s) where
-  pub frames-counted : framesLength s ≤ 64 * 4096
+  pub saved-counted : savedLength s ≤ 8 * maxContexts
+  saved-counted = omega arith
+
+  pub frames-counted : framesLength s ≤ maxFrames * maxSize
   frames-counted = mul-le-mul (r .frames) (r .size)
 
-  pub pages-counted : s .domains * s .pages ≤ 8 * 32
+  pub pages-counted : s .domains * s .pages ≤ maxDomains * maxPages
   pages-counted = mul-le-mul (r .domains) (r .pages)
 
-  pub store-counted : storeLength s ≤ 8 * 32 * 4096
+  pub store-counted : storeLength s ≤ maxDomains * maxPages * maxSize
   store-counted = mul-le-mul pages-counted (r .size)
 
 module _ (s : Setup) where
@@ -114,6 +117,12 @@ module _ (trace : List ℕ) (s : Setup) (at : ℕ) (e : openingAt trace ≡ Size
   unfolding headerValues
   taken-in-range = limited s (rw is-read (read-in-range _))
 
+  pub taken-saved : savedLength s ≤ 8 * maxContexts
+  taken-saved = saved-counted s taken-in-range
+
+  pub taken-pages : s .domains * s .pages ≤ maxDomains * maxPages
+  taken-pages = pages-counted s taken-in-range
+
   pub taken-frames : framesLength s ≤ limit
   unfolding productsFit
   taken-frames = leb→le (framesLength s) limit (each _ fitting .0)
@@ -122,29 +131,31 @@ module _ (trace : List ℕ) (s : Setup) (at : ℕ) (e : openingAt trace ≡ Size
   unfolding productsFit
   taken-store = leb→le (storeLength s) limit (each _ fitting .1 .0)
 
--- the start, where the monitor's is l
-module _ (trace : List ℕ) (setup : Setup) (place : ℕ) (frames store supply : List ℕ) where
-  pub opens : {l : Left} → supply ≡ supplyOf trace → l ≡ started setup frames store supply
-      → point trace (runAt setup (l .state) place 0) (l .frames) (l .store) [] ≡ startPoint trace setup place frames store []
+-- the start, where the core leaves l
+module _ (trace : List ℕ) (setup : Setup) (place : ℕ) (tables saved frames store : List ℕ) where
+  pub opens : {supply : List ℕ} {l : Left} → supply ≡ supplyOf trace → l ≡ started setup tables saved frames store supply
+      → point trace (runAt setup place 0) (l .tables) (l .saved) (l .frames) (l .store) []
+      ≡ startPoint trace setup place tables saved frames store []
   unfolding startPoint
   opens s e = rw (e, s)
 
-  pub start-counted : {r : Run} {f t : List ℕ} → point trace r f t [] ≡ startPoint trace setup place frames store [] → r .index ≤ r .place
+  pub start-counted : {r : Run} {x y f t : List ℕ}
+      → point trace r x y f t [] ≡ startPoint trace setup place tables saved frames store [] → r .index ≤ r .place
   unfolding startPoint
   start-counted {r} e = let none : r .index ≡ 0 = ap (λ (p : Point). p .run .index) e in omega arith
 
 -- a refused header's line
 module _ (number : ℕ) (out : List ℕ) where
-  pub no-room : length out < 128 → wrote [] out ≡ refusalWrote number out
+  pub no-room : length out < numbersRoom → wrote [] out ≡ refusalWrote number out
   unfolding refusalWrote
-  no-room h = rw (lt-ltb (length out) 128 h)
+  no-room h = rw (lt-ltb (length out) numbersRoom h)
 
-  pub room-for-it : {r : ℕ} {after : List ℕ} → 128 ≤ length out → Put 0 (refusedLine 0 number 0) out r after
+  pub room-for-it : {r : ℕ} {after : List ℕ} → numbersRoom ≤ length out → Put 0 (refusedLine 0 number 0) out r after
       → record { count = r; out = after } ≡ refusalWrote number out
   unfolding refusalWrote
   room-for-it {r} {after} h p =
       let counted : r ≡ length (refusedLine 0 number 0) = p .ends ∙ zero-add _ in
-      rw (le-ltb (length out) 128 h, counted, p .bytes)
+      rw (le-ltb (length out) numbersRoom h, counted, p .bytes)
 
 pub counts-in : (n : ℕ) (xs : List ℕ) → n ≤ length xs → Counts n xs
 counts-in n xs h = (h, sym (length-take-le n xs h))

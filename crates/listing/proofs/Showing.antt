@@ -1,41 +1,30 @@
--- What a line shows of an answer: the bytes that stand at the front of the answer buffer, in full. Assumes nothing.
+-- How much of the answer buffer a line shows: nothing of an event that is not done, and else as much as its event asks, for which the
+-- buffer has room.
 use mathlib.Core.Path.{_≡_, refl, sym, ap, _∙_}
 use mathlib.Core.Bool.{Bool, true, false, cond, not, _&&_, and-false}
 use mathlib.Core.Logic.{⊎-elim}
 use mathlib.Core.List.{List, [], _∷_}
-use Prim.Native.Nat.{ℕ, _+_, _*_, _≤_}
+use Prim.Native.Nat.{ℕ, _≤_}
 use native.Mathlib.Omega.{arith}
 use types.Run.{OneOf}
 use denote.Enum.Declared.{tagOf}
 use lib.Dec.{eqb}
-use lib.ListN.{length, take, drop, length-drop}
-use lib.Seq.{length-take-le, take-at}
+use lib.ListN.{length}
 use borrow.Author.Tests.{eqb-true, eqb-false, ne-eqb}
 use Rattle.rules.proofs.Event.{the-type}
-use Rattle.rules.specs.Bytes.{part, overlay, bytesOf, mapFrom, wordsIn, bigEndian}
-use Rattle.rules.proofs.Parts.{length-overlay, length-withPart, overlay-is}
-use Rattle.rules.proofs.Granting.{is-granted}
-use Rattle.rules.specs.Records.{Given, Machine, given, machine, placeOf, namesOf}
-use Rattle.rules.specs.Sealing.{sealPage, sealAt, sealNamed, seal, sealAll, done}
-use Rattle.rules.specs.Events.{answerLength, row, onFrame, does, spanBytes, shown as shownWords}
-use Rattle.rules.specs.Answers.{Outcome, refusal, refused, perform, performed, outset, stepFrom, step}
-use Rattle.rules.specs.declared.Setup.{Setup}
-use Rattle.rules.specs.declared.State.{State}
-use Rattle.rules.specs.declared.Asid.{Asid}
-use Rattle.rules.specs.declared.Gvpn.{Gvpn}
-use Rattle.rules.specs.declared.Place.{Place}
-use Rattle.rules.specs.declared.Place.the-variants.{Public, Clear, Sealed}
-use Rattle.rules.specs.declared.Named.{Named}
-use Rattle.rules.specs.declared.Named.the-variants.{Nothing, Page}
-use Rattle.stepping.specs.Left.{refuses}
-use Rattle.kernel.proofs.Touching.{read-fits}
+use Rattle.rules.proofs.Parts.{length-overlay}
+use Rattle.rules.specs.Events.{answerLength}
+use Rattle.rules.specs.Answers.{refused, perform, performed, step}
 use Rattle.rules.specs.declared.Ctc.{Ctc}
 use Rattle.rules.specs.declared.Gppn.{Gppn}
 use Rattle.rules.specs.declared.Span.{Span}
 use Rattle.rules.specs.declared.TrapKind.{TrapKind}
 use Rattle.rules.specs.declared.Event.{Event}
-use Rattle.rules.specs.declared.Event.the-variants.{Begin, End, Map, Unmap, KernelRead, KernelWrite, Resume, Spawn, Leave, Cloak, Uncloak, Read, Write, Trap}
-use Rattle.listing.specs.Listing.{showsAnswer, isShown, shown, shownLength}
+use Rattle.rules.specs.declared.Event.the-variants.{Begin, End, Map, Unmap, KernelRead, KernelWrite, Resume}
+use Rattle.rules.specs.declared.Event.the-variants.{Spawn, Leave, Cloak, Uncloak, Read, Write, Trap}
+use Rattle.core_answer.specs.Handed.{Handed, Left, givenIn, machineIn, refuses, leaves, keeps, stepped}
+use Rattle.core_answer.proofs.Laws.{was-granted, granted-leaves, refused-leaves}
+use Rattle.listing.specs.Listing.{showsAnswer, isShown, shownLength}
 
 -- a number is none of those that it differs from
 differs : List ℕ → ℕ → Bool
@@ -56,11 +45,15 @@ unfolding differs
 none-of [] n d o = o
 none-of (k ∷ []) n d o = eqb-false n k (not-first (eqb n k) true d) o
 none-of (k ∷ j ∷ ks) n d o =
-    ⊎-elim (eqb-false n k (not-first (eqb n k) (differs (j ∷ ks) n) d)) (none-of (j ∷ ks) n (not-later (eqb n k) (differs (j ∷ ks) n) d)) o
+    let rest = differs (j ∷ ks) n in
+    ⊎-elim (eqb-false n k (not-first (eqb n k) rest d)) (none-of (j ∷ ks) n (not-later (eqb n k) rest d)) o
 
 -- the kinds that show nothing
+abbrev hidden : List ℕ
+hidden = 0 ∷ 1 ∷ 2 ∷ 3 ∷ 5 ∷ 6 ∷ 7 ∷ 8 ∷ 9 ∷ 10 ∷ 11 ∷ 12 ∷ []
+
 abbrev pub Hidden : Event → Type 0
-Hidden e = OneOf (0 ∷ 1 ∷ 2 ∷ 3 ∷ 5 ∷ 6 ∷ 7 ∷ 8 ∷ 9 ∷ 10 ∷ 11 ∷ 12 ∷ []) (tagOf the-type e)
+Hidden e = OneOf hidden (tagOf the-type e)
 
 pub hidden-none : (e : Event) (n : ℕ) → Hidden e → 0 ≡ shownLength e n
 unfolding shownLength isShown differs
@@ -68,7 +61,7 @@ hidden-none (Begin d c) n h = refl
 hidden-none (End d) n h = refl
 hidden-none (Map d v f) n h = refl
 hidden-none (Unmap d v) n h = refl
-hidden-none (KernelRead f x) n h = absurd (none-of (0 ∷ 1 ∷ 2 ∷ 3 ∷ 5 ∷ 6 ∷ 7 ∷ 8 ∷ 9 ∷ 10 ∷ 11 ∷ 12 ∷ []) 4 refl h)
+hidden-none (KernelRead f x) n h = absurd (none-of hidden 4 refl h)
 hidden-none (KernelWrite f x) n h = refl
 hidden-none (Resume d c) n h = refl
 hidden-none (Spawn c u) n h = refl
@@ -77,7 +70,7 @@ hidden-none (Cloak c v) n h = refl
 hidden-none (Uncloak c v) n h = refl
 hidden-none (Read c v x) n h = refl
 hidden-none (Write c v x) n h = refl
-hidden-none (Trap c k mask) n h = absurd (none-of (0 ∷ 1 ∷ 2 ∷ 3 ∷ 5 ∷ 6 ∷ 7 ∷ 8 ∷ 9 ∷ 10 ∷ 11 ∷ 12 ∷ []) 13 refl h)
+hidden-none (Trap c k mask) n h = absurd (none-of hidden 13 refl h)
 
 -- done, or not
 pub shown-not : (e : Event) (n : ℕ) → (n ≡ 0 → ⊥) → 0 ≡ shownLength e n
@@ -93,133 +86,39 @@ module _ (n : ℕ) {e : Event} where
   unfolding shownLength isShown
   shown-trap is d = rw (is, d)
 
-not-shown : false ≡ true → ⊥
-not-shown e = let z : _≡_ {A = ℕ} 0 1 = cc in omega arith
-
-each-true : (a b : Bool) → a && b ≡ true → (a ≡ true) × (b ≡ true)
-each-true true b e = (refl, e)
-each-true false b e = absurd (not-shown e)
-
-pub overlay-front : (new bytes : List ℕ) (k : ℕ) → length new ≡ k → k ≤ length bytes → take k (overlay 0 new bytes) ≡ new
-overlay-front new bytes k size fits =
-    ap (take k) (overlay-is 0 new bytes (omega arith)) ∙ take-at new (drop (0 + length new) bytes) k size
-
--- sealing keeps the frames' length
-length-seal-at : (g : Given) (f : Gppn) (d : Asid) (v : Gvpn) (p : Place) (m : Machine) → length ((sealAt g f d v p m) .frames) ≡ length (m .frames)
-unfolding sealAt sealPage
-length-seal-at g f d v Public m = refl
-length-seal-at g f d v (Clear h w) m = simp length-withPart
-length-seal-at g f d v (Sealed k) m = refl
-
-length-seal-named : (g : Given) (f : Gppn) (n : Named) (m : Machine) → length ((sealNamed g f n m) .frames) ≡ length (m .frames)
-unfolding sealNamed
-length-seal-named g f Nothing m = refl
-length-seal-named g f (Page d v) m = length-seal-at g f d v (placeOf (g .setup) (m .tables) d v) m
-
-length-seal : (g : Given) (f : Gppn) (m : Machine) → length ((seal g f m) .frames) ≡ length (m .frames)
-unfolding seal
-length-seal g f m = length-seal-named g f (namesOf (m .tables) f) m
-
--- a part of a part, in full
-length-span : (s : Setup) (f : Gppn) (x : Span) (m : Machine) → x .off + x .len ≤ s .size → f .0 * s .size + s .size ≤ length (m .frames)
-    → length (spanBytes s f x m) ≡ x .len
-unfolding spanBytes part
-length-span s f x m fits inside =
-    let page = drop (f .0 * s .size) (m .frames) in
-    let whole : length (take (s .size) page) ≡ s .size =
-    length-take-le (s .size) page (omega (arith, length-drop (f .0 * s .size) (m .frames))) in
-    length-take-le (x .len) (drop (x .off) (take (s .size) page)) (omega (arith, whole, length-drop (x .off) (take (s .size) page)))
-
-module _ (setup : Setup) (state : State) (frames store supply new buffer : List ℕ) where
-  abbrev g : Given
-  g = given setup supply
-
-  abbrev m : Machine
-  m = machine state frames store
-
-  abbrev o : Event → Outcome
-  o e = step g e new buffer m
-
-  abbrev n : Event → ℕ
-  n e = refusal g m e (length new) (length buffer)
-
-  -- what is done was granted
-  done-granted : (e : Event) → o e .number ≡ 0 → refuses setup state frames store supply e new buffer ≡ 0
-  unfolding step stepFrom outset refused
-  done-granted e = go (eqb (n e) 0) refl
+module _ (h : Handed) where
+  -- what is answered 0 was not refused
+  not-refused : stepped h .answer .number ≡ 0 → refuses h ≡ 0
+  unfolding stepped refused
+  not-refused = go (eqb (refuses h) 0) refl
     where
-      go : (b : Bool) → eqb (n e) 0 ≡ b
-          → (cond b (performed (perform g e new m) buffer) (refused (n e) m buffer)) .number ≡ 0
-          → n e ≡ 0
-      go true p z = eqb-true (n e) 0 p
+      go : (b : Bool) → eqb (refuses h) 0 ≡ b
+          → (cond b (leaves (h .setup) (step (givenIn h) (h .event) (h .new) (h .buffer) (machineIn h))) (keeps (refuses h) h))
+          .answer .number
+          ≡ 0
+          → refuses h ≡ 0
+      go true p z = eqb-true (refuses h) 0 p
       go false p z = z
 
-  done-performed : (e : Event) → refuses setup state frames store supply e new buffer ≡ 0
-      → o e ≡ performed (perform g e new m) buffer
-  unfolding step stepFrom outset
-  done-performed e none = rw none
-
-  -- an answer that is shown is as long as its event asks
-  gives : (e : Event) → showsAnswer e ≡ true → refuses setup state frames store supply e new buffer ≡ 0
-      → length ((perform g e new m) .bytes) ≡ answerLength e
-  unfolding perform does done row onFrame sealAll shownWords bytesOf mapFrom wordsIn bigEndian
-  gives (Begin d c) s none = absurd (not-shown s)
-  gives (End d) s none = absurd (not-shown s)
-  gives (Map d v f) s none = absurd (not-shown s)
-  gives (Unmap d v) s none = absurd (not-shown s)
-  gives (KernelRead f x) s none =
-      let fits = read-fits setup state frames store supply f x new buffer none {n = length ((seal g f m) .frames)} (length-seal g f m) in
-      length-span setup f x (seal g f m) (fits .0) (fits .1)
-  gives (KernelWrite f x) s none = absurd (not-shown s)
-  gives (Resume d c) s none = absurd (not-shown s)
-  gives (Spawn c u) s none = absurd (not-shown s)
-  gives (Leave c) s none = absurd (not-shown s)
-  gives (Cloak c v) s none = absurd (not-shown s)
-  gives (Uncloak c v) s none = absurd (not-shown s)
-  gives (Read c v x) s none = absurd (not-shown s)
-  gives (Write c v x) s none = absurd (not-shown s)
-  gives (Trap c k mask) s none = refl
-
-  pub length-buffer : (e : Event) → length (o e .buffer) ≡ length buffer
-  unfolding step stepFrom outset refused performed
-  length-buffer e = go (eqb (n e) 0)
+  pub length-buffer : length (stepped h .buffer) ≡ length (h .buffer)
+  unfolding performed
+  length-buffer = go (eqb (refuses h) 0) refl
     where
-      go : (b : Bool) → length ((cond b (performed (perform g e new m) buffer) (refused (n e) m buffer)) .buffer) ≡ length buffer
-      go true = length-overlay 0 ((perform g e new m) .bytes) buffer
-      go false = refl
+      go : (b : Bool) → eqb (refuses h) 0 ≡ b → length (stepped h .buffer) ≡ length (h .buffer)
+      go true p =
+          ap (λ (l : Left). length (l .buffer)) (granted-leaves h (eqb-true (refuses h) 0 p))
+          ∙ length-overlay 0 ((perform (givenIn h) (h .event) (h .new) (machineIn h)) .bytes) (h .buffer)
+      go false p = ap (λ (l : Left). length (l .buffer)) (refused-leaves h (refuses h) (eqb-false (refuses h) 0 p) refl)
 
-  -- what is shown is done
-  module _ (e : Event) (t : isShown e (o e .number) ≡ true) where
-    both : (showsAnswer e ≡ true) × (eqb (o e .number) 0 ≡ true)
-    unfolding isShown
-    both = each-true (showsAnswer e) (eqb (o e .number) 0) t
-
-    none : refuses setup state frames store supply e new buffer ≡ 0
-    none = done-granted e (eqb-true (o e .number) 0 (both .1))
-
-    long : answerLength e ≤ length buffer
-    long = is-granted g m e (length new) (length buffer) none .gives
-
-    front : take (answerLength e) (o e .buffer) ≡ o e .bytes
-    unfolding performed
-    front =
-        let size : length ((perform g e new m) .bytes) ≡ answerLength e = gives e (both .0) none in
-        rw (done-performed e none) (overlay-front ((perform g e new m) .bytes) buffer (answerLength e) size long)
-
-  -- WHAT IS SHOWN stands at the front of the answer buffer
-  pub shown-fits : (e : Event) → shownLength e (o e .number) ≤ length (o e .buffer)
-  unfolding shownLength
-  shown-fits e = go (isShown e (o e .number)) refl
+  -- WHAT IS SHOWN fits the answer buffer
+  pub shown-fits : shownLength (h .event) (stepped h .answer .number) ≤ length (stepped h .buffer)
+  unfolding shownLength isShown
+  shown-fits = go (showsAnswer (h .event)) (eqb (stepped h .answer .number) 0) refl
     where
-      go : (b : Bool) → isShown e (o e .number) ≡ b → cond b (answerLength e) 0 ≤ length (o e .buffer)
-      go true t = omega (arith, length-buffer e, long e t)
-      go false t = omega arith
-
-  pub shown-front : (e : Event) → take (shownLength e (o e .number)) (o e .buffer) ≡ shown e (o e)
-  unfolding shownLength shown
-  shown-front e = go (isShown e (o e .number)) refl
-    where
-      go : (b : Bool) → isShown e (o e .number) ≡ b
-          → take (cond b (answerLength e) 0) (o e .buffer) ≡ cond b (o e .bytes) []
-      go true t = front e t
-      go false t = refl
+      go : (a b : Bool) → eqb (stepped h .answer .number) 0 ≡ b
+          → cond (a && b) (answerLength (h .event)) 0 ≤ length (stepped h .buffer)
+      go true true e =
+          let granted = was-granted h (not-refused (eqb-true (stepped h .answer .number) 0 e)) in
+          omega (arith, length-buffer, granted .gives)
+      go true false e = omega arith
+      go false b e = omega arith

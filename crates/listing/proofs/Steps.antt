@@ -1,5 +1,5 @@
 -- The laws of the listing: every line brings the run forward, so the lines from a point are its next line and those from the point
--- behind that; and an output filled with lines holds the first of them. Assumes nothing.
+-- behind that; and an output filled with lines holds the first of them.
 use mathlib.Core.Path.{_≡_, refl, sym, ap, _∙_}
 use mathlib.Core.List.{List, [], _∷_, _++_}
 use Prim.Native.Nat.{ℕ, zero, suc, _+_, _-_, _≤_, _<_}
@@ -13,7 +13,8 @@ use Rattle.trace_read.specs.declared.Found.{Found}
 use Rattle.trace_read.specs.declared.Found.the-variants.{End, Refused, Record}
 use Rattle.trace_laws.proofs.Records.{stands, takes-a-byte}
 use Rattle.trace_laws.proofs.Wholes.{first-right}
-use Rattle.listing.specs.Listing.{Point, Listed, unread, more, eventListed, listedAs, listed, listedIn, listedFrom, textOf, linesFrom}
+use Rattle.listing.specs.Listing.{Point, Listed, unread, more, eventListed, listedAs, listed, listedIn, listedFrom}
+use Rattle.listing.specs.Listing.{textOf, linesFrom}
 use Rattle.listing.specs.Filling.{lineRoom, none, behind, fitting}
 
 -- the point behind a line: of the same trace, further on, and its index still at most its place
@@ -102,16 +103,16 @@ pub fitting-end : (p : Point) (room : ℕ) → length (p .trace) ≤ p .run .pla
 unfolding fitting
 fitting-end p room h = rw (listed-end p h)
 
-pub fitting-full : (p : Point) (room : ℕ) → p .run .place < length (p .trace) → room < lineRoom p
+pub fitting-full : (p : Point) (room : ℕ) → p .run .place < length (p .trace) → room < lineRoom (length (p .buffer))
     → fitting room p (listedFrom p) ≡ none p
 unfolding fitting
-fitting-full p room h f = rw (listed-more p h, lt-leb (lineRoom p) room f)
+fitting-full p room h f = rw (listed-more p h, lt-leb (lineRoom (length (p .buffer))) room f)
 
-pub fitting-more : (p : Point) (room : ℕ) → p .run .place < length (p .trace) → lineRoom p ≤ room
+pub fitting-more : (p : Point) (room : ℕ) → p .run .place < length (p .trace) → lineRoom (length (p .buffer)) ≤ room
     → fitting room p (listedFrom p)
     ≡ behind (listed p .line) (fitting (room - length (listed p .line)) (listed p .next) (listedFrom (listed p .next)))
 unfolding fitting
-fitting-more p room h f = rw (listed-more p h, le-leb (lineRoom p) room f)
+fitting-more p room h f = rw (listed-more p h, le-leb (lineRoom (length (p .buffer))) room f)
 
 -- an output that is filled leaves the run further on, and its index still at most its place
 pub record Onward (p q : Point) : Type 0 where
@@ -125,10 +126,10 @@ pub fitting-onward : (n : ℕ) (p : Point) (room : ℕ) → Enough p n → p .ru
     → Onward p (fitting room p (listedFrom p) .end)
 fitting-onward zero p room e c = rw (fitting-end p room (omega arith)) (stays p c)
 fitting-onward (suc n) p room e c =
-    go (decLt (p .run .place) (length (p .trace))) (decLt room (lineRoom p))
+    go (decLt (p .run .place) (length (p .trace))) (decLt room (lineRoom (length (p .buffer))))
     (λ h. fitting-onward n (listed p .next) (room - length (listed p .line)) (enough-behind p n h e) (ahead p h .counted c))
   where
-    go : Dec (p .run .place < length (p .trace)) → Dec (room < lineRoom p)
+    go : Dec (p .run .place < length (p .trace)) → Dec (room < lineRoom (length (p .buffer)))
         → (p .run .place < length (p .trace)
         → Onward (listed p .next) (fitting (room - length (listed p .line)) (listed p .next) (listedFrom (listed p .next)) .end))
         → Onward p (fitting room p (listedFrom p) .end)

@@ -1,5 +1,4 @@
--- An output filled with whole lines, as many as surely fit, and all that a call of the library leaves, as one record. Assumes
--- nothing.
+-- An output filled with whole lines, as many as surely fit, and all that a call of the library leaves, as one record.
 use mathlib.Core.List.{List, [], _∷_, _++_}
 use mathlib.Core.Bool.{cond}
 use Prim.Native.Nat.{ℕ, _+_, _-_, _*_, _≤_, _<_}
@@ -11,9 +10,12 @@ use Rattle.listing.specs.Listing.{Point, Listed, point, endedRun, listed
 use Rattle.listing.specs.declared.Run.{Run}
 use Rattle.listing.specs.declared.Filled.{Filled}
 
--- more than any line takes: six numbers, each with a space behind it, and the answer in hex
-abbrev pub lineRoom : Point → ℕ
-lineRoom p = 128 + 2 * length (p .buffer)
+-- more than any line takes: six numbers, each with a space behind it, and an answer of so many bytes in hex
+abbrev pub numbersRoom : ℕ
+numbersRoom = 128
+
+abbrev pub lineRoom : ℕ → ℕ
+lineRoom answer = numbersRoom + 2 * answer
 
 -- lines, and the point behind them
 pub record Lines : Type 0 where
@@ -31,17 +33,17 @@ unfoldable pub fitting : ℕ → Point → List Listed → Lines
 fitting room p [] = none p
 fitting room p (l ∷ ls) =
     let some = behind (l .line) (fitting (room - length (l .line)) (l .next) ls) in
-    cond (leb (lineRoom p) room) some (none p)
+    cond (leb (lineRoom (length (p .buffer))) room) some (none p)
 
--- what is left when an output is filled: how many of its bytes are, the point behind the lines, and its bytes
+-- what is left when an output is filled: how many of its bytes are lines, the point behind them, and its bytes
 pub record Fills : Type 0 where
   pub count : ℕ
   pub end : Point
   pub out : List ℕ
 
-abbrev pub left : Filled → List ℕ → List ℕ → List ℕ → List ℕ → List ℕ → Fills
-left r trace frames store buffer out =
-    record { count = r .count; end = point trace (r .run) frames store buffer; out = out }
+abbrev pub left : Filled → List ℕ → List ℕ → List ℕ → List ℕ → List ℕ → List ℕ → List ℕ → Fills
+left r trace tables saved frames store buffer out =
+    record { count = r .count; end = point trace (r .run) tables saved frames store buffer; out = out }
 
 abbrev pub fills : Lines → List ℕ → Fills
 fills l out = record { count = length (l .text); end = l .end; out = overlay 0 (l .text) out }
@@ -62,7 +64,7 @@ filled p out =
 pub record Ready (trace : List ℕ) (run : Run) (buffer room at : ℕ) : Type 0 where
   pub counted : run .index ≤ run .place
   pub inside : run .place < length trace
-  pub wide : at + 128 + 2 * buffer ≤ room
+  pub wide : at + lineRoom buffer ≤ room
 
 -- a header's line, over an output that has room for it
 pub record Wrote : Type 0 where
@@ -73,4 +75,4 @@ abbrev pub wrote : List ℕ → List ℕ → Wrote
 wrote text out = record { count = length text; out = overlay 0 text out }
 
 unfoldable pub refusalWrote : ℕ → List ℕ → Wrote
-refusalWrote number out = cond (ltb (length out) 128) (wrote [] out) (wrote (refusedLine 0 number 0) out)
+refusalWrote number out = cond (ltb (length out) numbersRoom) (wrote [] out) (wrote (refusedLine 0 number 0) out)

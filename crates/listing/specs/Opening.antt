@@ -1,5 +1,5 @@
 -- Document 01, "The trace form": the checks that trace-run makes before the first record, in their order. Each that fails is a
--- refused header. Assumes nothing.
+-- refused header.
 use mathlib.Core.List.{List, [], _∷_}
 use mathlib.Core.Bool.{Bool, cond}
 use Prim.Native.Nat.{ℕ, _*_}
@@ -15,7 +15,10 @@ use Rattle.trace_read.specs.declared.Header.the-variants.{Sizes, Refused}
 abbrev pub limit : ℕ
 limit = 16384
 
--- the lent memory that a setup asks for: F · P and D · V · P
+-- what a setup asks to be lent: eight words of saved registers a context, and F · P and D · V · P bytes
+abbrev pub savedLength : Setup → ℕ
+savedLength s = 8 * s .contexts
+
 abbrev pub framesLength : Setup → ℕ
 framesLength s = s .frames * s .size
 

@@ -1,27 +1,25 @@
 // The listing of a trace, as document 01 has trace-run print it: the header's checks, the start, and an output filled with lines.
 ghost use mathlib.Core.Path.{_≡_};
 ghost use mathlib.Core.List.{[], _∷_};
-ghost use Prim.Native.Nat.{_+_, _*_, _≤_, _<_};
+ghost use Prim.Native.Nat.{_+_, _≤_, _<_};
 ghost use lib.ListN.{length};
 ghost use lib.Dec.{leb, ltb};
 ghost use Rattle.io.specs.Counts.{Counts};
 ghost use Rattle.rules.specs.Bytes.{allOf};
 ghost use Rattle.rules.specs.Asked.{Limited};
-ghost use Rattle.trace_read.specs.Reading.{readAt};
 ghost use Rattle.listing.specs.Opening.{productsFit, openingAt};
-ghost use Rattle.listing.specs.Listing.{point, listed, listedAs, eventListed, shownLength, startPoint};
-ghost use Rattle.listing.specs.Filling.{left, endedFill, turns, filled, Ready, refusalWrote, wrote as wroteOver};
+ghost use Rattle.listing.specs.Listing.{shownLength, usedIn};
+ghost use Rattle.listing.specs.Filling.{Ready, lineRoom, endedFill, refusalWrote};
+ghost use Rattle.listing.specs.Contracts.{Starts, ListsEvent, ListsNext, ListsFitting};
 use rules::Answer;
 use rules::Event;
 use rules::Setup;
-use rules::State;
 use trace_read::Found;
 use trace_read::Header;
 
-// Where a run over a trace stands: all that is kept from one call to the next, but for the lent bytes.
+// Where a run over a trace stands: all that is kept from one call to the next, but for what is lent.
 pub struct Run {
     pub setup: Setup,
-    pub state: State,
     // Of the next record: its place in the trace, and its index.
     pub place: usize,
     pub index: usize,
@@ -38,6 +36,9 @@ const LIMIT: usize = 16384;
 
 // Room for a line without the answer's bytes.
 const LINE: usize = 128;
+
+// The registers that a trap shows, in bytes.
+const REGISTERS: usize = 64;
 
 fn products_fit(setup: Setup) -> bool
     requires { ⌜ Limited setup ⌝ }
@@ -78,15 +79,28 @@ pub fn refusal(number: u8, out: &mut [u8]) -> usize
     listing_line::refused_line(out, 0, 0, number, 0)
 }
 
-// The run before the record at a place: the monitor is started over the lent frames and store.
-pub fn start(trace: &[u8], setup: Setup, place: usize, frames: &mut [u8], store: &mut [u8]) -> Run
-    ensures { λ r. ⌜ point (now (trace .entry)) r (now (frames .exit)) (now (store .exit)) [] ≡ startPoint (now (trace .entry)) setup place (now (frames .entry)) (now (store .entry)) [] ⌝ }
+// The run before the record at a place: the core is started over what is lent.
+pub fn start(
+    trace: &[u8],
+    setup: Setup,
+    place: usize,
+    tables: &mut [u16],
+    saved: &mut [u64],
+    frames: &mut [u8],
+    store: &mut [u8],
+) -> Run
+    ensures { λ r. ⌜ Starts trace setup place tables saved frames store r ⌝ }
 {
-    let begun = monitor::start(setup, frames, store, trace_read::supply(trace));
-    let state = begun.state;
+    core::start(
+        setup,
+        tables,
+        saved,
+        frames,
+        store,
+        trace_read::supply(trace),
+    );
     Run {
         setup,
-        state,
         place,
         index: 0,
     }
@@ -101,7 +115,7 @@ fn shown_length(event: Event, number: u8) -> usize
     }
     match event {
         Event::KernelRead(_, span) => span.len,
-        Event::Trap(_, _, _) => 64,
+        Event::Trap(_, _, _) => REGISTERS,
         _ => 0,
     }
 }
@@ -113,27 +127,35 @@ fn event_turn(
     event: Event,
     data: &[u8],
     trace: &[u8],
+    tables: &mut [u16],
+    saved: &mut [u64],
     frames: &mut [u8],
     store: &mut [u8],
     answer: &mut [u8],
     out: &mut [u8],
     at: usize,
 ) -> Filled
-    requires { ⌜ (run .index < next) × (at + 128 + 2 * length (now answer) ≤ length (now out)) ⌝ }
-    ensures { λ r. ⌜ left r (now (trace .entry)) (now (frames .exit)) (now (store .exit)) (now (answer .exit)) (now (out .exit)) ≡ turns at (eventListed (point (now (trace .entry)) run (now (frames .entry)) (now (store .entry)) (now (answer .entry))) event next (now («data» .entry))) (now (out .entry)) ⌝ }
-    ensures { λ r. ⌜ r .count ≤ at + 128 + 2 * length (now (answer .entry)) ⌝ }
+    requires { ⌜ (run .index < next) × (at + lineRoom (length (now answer)) ≤ length (now out)) ⌝ }
+    ensures { λ r. ⌜ ListsEvent run next event «data» trace tables saved frames store answer out at r ⌝ }
+    ensures { λ r. ⌜ r .count ≤ at + lineRoom (length (now (answer .entry))) ⌝ }
 {
     let setup = run.setup;
-    let state = run.state;
     let supply = trace_read::supply(trace);
-    let stepped = monitor::step(setup, state, frames, store, supply, event, data, answer);
-    let told = stepped.answer;
+    let told = core::step(
+        setup,
+        tables,
+        saved,
+        frames,
+        store,
+        supply,
+        event,
+        data,
+        answer,
+    );
     let shown = shown_length(event, told.number);
     let count = listing_line::event_line(out, at, run.index, event.kind(), told, &answer[..shown]);
-    let after = stepped.state;
     let behind = Run {
         setup,
-        state: after,
         place: next,
         index: run.index + 1,
     };
@@ -145,20 +167,30 @@ fn ended(run: Run, end: usize, count: usize) -> Filled
     ensures { λ r. ⌜ r ≡ endedFill run end count ⌝ }
 {
     let setup = run.setup;
-    let state = run.state;
     let last = Run {
         setup,
-        state,
         place: end,
         index: run.index,
     };
     Filled { run: last, count }
 }
 
+// The used count as it stands, which the line of a refused record tells; 0 where the words are too few to have one.
+fn used(tables: &[u16]) -> u16
+    ensures { λ r. ⌜ r ≡ usedIn (now (tables .entry)) ⌝ }
+{
+    if tables.len() <= core_tables::USED_AT {
+        return 0;
+    }
+    tables[core_tables::USED_AT]
+}
+
 // The line of what stands at the run's place, over out from at on; the run behind it, and the place behind the line.
 fn turn(
     run: Run,
     trace: &[u8],
+    tables: &mut [u16],
+    saved: &mut [u64],
     frames: &mut [u8],
     store: &mut [u8],
     answer: &mut [u8],
@@ -166,8 +198,8 @@ fn turn(
     at: usize,
 ) -> Filled
     requires { ⌜ Ready (now trace) run (length (now answer)) (length (now out)) at ⌝ }
-    ensures { λ r. ⌜ left r (now (trace .entry)) (now (frames .exit)) (now (store .exit)) (now (answer .exit)) (now (out .exit)) ≡ turns at (listed (point (now (trace .entry)) run (now (frames .entry)) (now (store .entry)) (now (answer .entry)))) (now (out .entry)) ⌝ }
-    ensures { λ r. ⌜ r .count ≤ at + 128 + 2 * length (now (answer .entry)) ⌝ }
+    ensures { λ r. ⌜ ListsNext run trace tables saved frames store answer out at r ⌝ }
+    ensures { λ r. ⌜ r .count ≤ at + lineRoom (length (now (answer .entry))) ⌝ }
 {
     let place = run.place;
     let unread = &trace[place..];
@@ -180,11 +212,24 @@ fn turn(
             next,
         } => {
             let new = trace_read::data_of(unread, found);
-            event_turn(run, next, event, new, trace, frames, store, answer, out, at)
+            event_turn(
+                run,
+                next,
+                event,
+                new,
+                trace,
+                tables,
+                saved,
+                frames,
+                store,
+                answer,
+                out,
+                at,
+            )
         }
         Found::Refused(number) => {
-            let used = run.state.tables.used;
-            let count = listing_line::refused_line(out, at, run.index, number, used);
+            let told = used(tables);
+            let count = listing_line::refused_line(out, at, run.index, number, told);
             ended(run, trace.len(), count)
         }
         Found::End => ended(run, trace.len(), at),
@@ -193,7 +238,7 @@ fn turn(
 
 // Whether a line is to follow: bytes of the trace are left, and the longest line fits.
 fn goes_on(place: usize, end: usize, room: usize, answer: usize) -> bool
-    ensures { λ r. ⌜ r ≡ allOf (ltb place end ∷ leb (128 + 2 * answer) room ∷ []) ⌝ }
+    ensures { λ r. ⌜ r ≡ allOf (ltb place end ∷ leb (lineRoom answer) room ∷ []) ⌝ }
 {
     if end <= place {
         return false;
@@ -208,12 +253,14 @@ fn goes_on(place: usize, end: usize, room: usize, answer: usize) -> bool
 pub fn fill(
     run: Run,
     trace: &[u8],
+    tables: &mut [u16],
+    saved: &mut [u64],
     frames: &mut [u8],
     store: &mut [u8],
     answer: &mut [u8],
     out: &mut [u8],
 ) -> Filled
-    ensures { λ r. ⌜ left r (now (trace .entry)) (now (frames .exit)) (now (store .exit)) (now (answer .exit)) (now (out .exit)) ≡ filled (point (now (trace .entry)) run (now (frames .entry)) (now (store .entry)) (now (answer .entry))) (now (out .entry)) ⌝ }
+    ensures { λ r. ⌜ ListsFitting run trace tables saved frames store answer out r ⌝ }
     ensures { λ r. ⌜ Counts (r .count) (now (out .exit)) ⌝ }
 {
     let mut after = run;
@@ -222,7 +269,17 @@ pub fn fill(
         return Filled { run, count };
     }
     while goes_on(after.place, trace.len(), out.len() - count, answer.len()) {
-        let next = turn(after, trace, frames, store, answer, out, count);
+        let next = turn(
+            after,
+            trace,
+            tables,
+            saved,
+            frames,
+            store,
+            answer,
+            out,
+            count,
+        );
         after = next.run;
         count = next.count;
     }

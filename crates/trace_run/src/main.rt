@@ -1,9 +1,11 @@
 // trace-run: a trace on standard input, its listing on standard output, as document 01 says, and nothing else. All of the input is
-// read before anything is written. What the lines are is promised by runner; here they are read and written.
+// read before anything is written. What the lines are is promised by listing; here they are read and written.
 ghost use mathlib.Core.Path.{_≡_};
-ghost use Prim.Native.Nat.{_+_, _*_, _≤_, _<_};
+ghost use Prim.Native.Nat.{_≤_};
 ghost use lib.ListN.{length};
 ghost use Rattle.listing.specs.Opening.{openingAt};
+ghost use Rattle.listing.specs.Listing.{answerRoom};
+ghost use Rattle.listing.specs.Filling.{lineRoom};
 use libc::STDIN_FILENO;
 use libc::STDOUT_FILENO;
 use rules::Setup;
@@ -42,16 +44,18 @@ fn write_lines(
     trace: &[u8],
     setup: Setup,
     place: usize,
+    tables: &mut [u16],
+    saved: &mut [u64],
     frames: &mut [u8],
     store: &mut [u8],
     answer: &mut [u8],
     out: &mut [u8],
 )
-    requires { ⌜ 128 + 2 * length (now answer) ≤ length (now out) ⌝ }
+    requires { ⌜ lineRoom (length (now answer)) ≤ length (now out) ⌝ }
 {
-    let mut run = listing::start(trace, setup, place, frames, store);
+    let mut run = listing::start(trace, setup, place, tables, saved, frames, store);
     while run.place < trace.len() {
-        let filled = listing::fill(run, trace, frames, store, answer, out);
+        let filled = listing::fill(run, trace, tables, saved, frames, store, answer, out);
         let count = filled.count;
         if !io::write_all(STDOUT_FILENO, &out[..count]) {
             return;
@@ -60,19 +64,32 @@ fn write_lines(
     }
 }
 
-// The listing of a trace that trace-run takes: as much of the lent memory as the setup asks for is handed on.
+// Words of saved registers for the most contexts that a setup has: eight for each.
+const SAVED: usize = 8 * Setup::MAX_CONTEXTS;
+
+// A trace, the frames and the store are at most so many bytes long.
+const LIMIT: usize = 16384;
+
+const ANSWER: usize = 4096;
+
+// The listing of a trace that trace-run takes: of the lent words and bytes as many as the setup asks for are handed on.
 fn list_records(trace: &[u8], setup: Setup, place: usize, out: &mut [u8])
-    requires { ⌜ (openingAt (now trace) ≡ Header.Sizes setup place) × (8320 ≤ length (now out)) ⌝ }
+    requires { ⌜ (openingAt (now trace) ≡ Header.Sizes setup place) × (lineRoom answerRoom ≤ length (now out)) ⌝ }
 {
-    let mut frames = [0u8; 16384];
-    let mut store = [0u8; 16384];
-    let mut answer = [0u8; 4096];
+    let mut tables = [0u16; core_tables::WORDS];
+    let mut saved = [0u64; SAVED];
+    let mut frames = [0u8; LIMIT];
+    let mut store = [0u8; LIMIT];
+    let mut answer = [0u8; ANSWER];
+    let n = 8 * setup.contexts;
     let f = setup.frames * setup.size;
     let s = setup.domains * setup.pages * setup.size;
     write_lines(
         trace,
         setup,
         place,
+        &mut tables,
+        &mut saved[..n],
         &mut frames[..f],
         &mut store[..s],
         &mut answer,
@@ -94,7 +111,7 @@ fn list(trace: &[u8]) {
 
 fn main() {
     // one byte more than a trace may have, so that a longer one is seen to be too long
-    let mut buf = [0u8; 16385];
+    let mut buf = [0u8; LIMIT + 1];
     let input = read_all(&mut buf);
     let count = input.count;
     if input.whole {

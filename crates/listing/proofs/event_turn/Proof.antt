@@ -1,8 +1,9 @@
--- `listing::event_turn` meets its contract: what the monitor leaves is the outcome of the listing's step, and what the line shows of
--- the answer stands at the front of its buffer.
+-- `listing::event_turn` meets its contract: what the core leaves is what the listing's step leaves, and what the line shows of the
+-- answer fits its buffer.
 use mathlib.Core.List.{List}
 use Prim.Native.Nat.{ℕ}
 use native.Mathlib.Omega.{arith}
+use Rattle.listing.specs.Listing.{Point, point}
 use Rattle.listing.proofs.Turns.{Shows, shows, event-turns}
 use borrow.Author.Needs.{needs}
 use Rattle.listing.proofs.event_turn.Statement.{statement}
@@ -20,15 +21,33 @@ shown-length-requires c κs = search needs
 kind-requires : tie.Need-kind-requires
 kind-requires c κs = search needs
 
--- what is shown, once the monitor has answered
+-- what is shown, once the core has answered
+abbrev answered : tie.After-shown-length → tie.After-step
+answered c = c .before .before .before .before .before .before .before .before .before .before .before
+
+abbrev signed : tie.After-step → tie.After-supply
+signed c = c .before .before .before .before .before .before
+
+abbrev begun : tie.After-supply → tie.Start
+begun c = c .before .before .before .before .before .before .before .before .before .before
+
 abbrev entry : tie.After-shown-length → tie.Start
-entry c = c .before .before .before .before .before .before .before .before .before .before .before .before .before .before .before .before .before .before .before .before .before
+entry c = begun (signed (answered c))
 
-abbrev left-answer : tie.After-shown-length → List ℕ
-left-answer c = c .before .before .before .before .before .before .before .before .step .last .1 .1 .1 .1 .1 .1 .1 .0
+abbrev stands : tie.Start → Point
+stands s =
+    let a = s .args in
+    point (a .trace .now) (a .run) (a .tables .now) (a .saved .now) (a .frames .now) (a .store .now) (a .answer .now)
 
-shown : (c : tie.After-shown-length) → Shows (c .shown-length .result) (left-answer c) ((entry c) .args .answer .now)
-shown c = shows ((entry c) .args .trace .now) ((entry c) .args .run) ((entry c) .args .frames .now) ((entry c) .args .store .now) ((entry c) .args .answer .now) ((entry c) .args .event) ((entry c) .args .next) ((entry c) .args .«data» .now) _ (c .before .before .before .before .before .before .before .before .before .before .before .before .supply .ensures) (c .before .before .before .before .before .before .before .before .step .ensures) (c .shown-length .ensures)
+abbrev left-answer : tie.After-step → List ℕ
+left-answer c = c .step .last .1 .1 .1 .1 .1 .1 .1 .1 .0
+
+shown : (c : tie.After-shown-length) → Shows (c .shown-length .result) (left-answer (answered c)) ((entry c) .args .answer .now)
+shown c =
+    let s = entry c in
+    let k = answered c in
+    shows (stands s) (s .args .event) (s .args .next) (s .args .«data» .now) _ ((signed k) .supply .ensures) (k .step .ensures)
+    (c .shown-length .ensures)
 
 slice-reshare-prefix-event-line : tie.Need-slice-reshare-prefix-event-line
 slice-reshare-prefix-event-line c = shown (c .before .before) .within
@@ -41,8 +60,8 @@ event-line-requires c κs =
     let x = shown (c .before .before .before) in
     omega (arith, (entry (c .before .before .before)) .pre .1, x .within, x .exact, x .long)
 
-add-t31 : tie.Need-add-t31
-add-t31 c = let s = entry (c .before .before .before .before .before .before .before .before) in omega (arith, s .pre .0, s .fits .next)
+add-t34 : tie.Need-add-t34
+add-t34 c = let s = entry (c .before .before .before .before .before .before .before) in omega (arith, s .pre .0, s .fits .next)
 
 same-length : tie.Need-same-length
 same-length c = search needs
@@ -56,12 +75,22 @@ same-length-3 c = search needs
 same-length-4 : tie.Need-same-length-4
 same-length-4 c = search needs
 
+same-length-5 : tie.Need-same-length-5
+same-length-5 c = search needs
+
+same-length-6 : tie.Need-same-length-6
+same-length-6 c = search needs
+
 returns : tie.Need-returns
 returns d =
-    let c = d .before .before .before .before .before .before .before .before in
+    let c = d .before .before .before .before .before .before .before in
+    let s = entry c in
+    let k = answered c in
+    let put = d .before .before .before .event-line .ensures in
     let x = shown c in (
-      event-turns ((entry c) .args .trace .now) ((entry c) .args .run) ((entry c) .args .frames .now) ((entry c) .args .store .now) ((entry c) .args .answer .now) ((entry c) .args .event) ((entry c) .args .next) ((entry c) .args .«data» .now) _ (c .before .before .before .before .before .before .before .before .before .before .before .before .supply .ensures) (c .before .before .before .before .before .before .before .before .step .ensures) (c .shown-length .ensures) (d .before .before .before .before .before .before .kind .ensures) (d .before .before .before .before .event-line .ensures .0),
-      omega (arith, d .before .before .before .before .event-line .ensures .1, x .within, x .exact, x .long),
+      event-turns (stands s) (s .args .event) (s .args .next) (s .args .«data» .now) _ ((signed k) .supply .ensures) (k .step .ensures)
+          (c .shown-length .ensures) (d .before .before .before .before .before .kind .ensures) (put .0),
+      omega (arith, put .1, x .within, x .exact, x .long),
     )
 
 pub event-turn-spec : {M : Type 1} → statement M
@@ -75,9 +104,11 @@ event-turn-spec =
     slice-reshare-prefix-event-line
     slice-aggregate-event-line
     event-line-requires
-    add-t31
+    add-t34
     same-length
     same-length-2
     same-length-3
     same-length-4
+    same-length-5
+    same-length-6
     returns)

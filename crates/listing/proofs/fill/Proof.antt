@@ -1,4 +1,5 @@
--- `listing::fill` meets its contract.
+-- `listing::fill` meets its contract. Between two turns the text that is written and the lines from where the run has come to are
+-- those from its start.
 use mathlib.Core.Path.{_≡_, refl, _∙_}
 use Prim.Native.Nat.{_-_}
 use native.Mathlib.Omega.{arith}
@@ -11,51 +12,80 @@ use Rattle.listing.proofs.fill.Statement.{statement}
 use Rattle.listing.proofs.fill.Tie as tie
 
 abbrev Inv-loop : tie.InvT-loop
-Inv-loop trace frames₀ store₀ answer₀ out₀ after₀ count₀ frames store answer out after count =
-    (length frames ≡ length frames₀)
+Inv-loop trace tables₀ saved₀ frames₀ store₀ answer₀ out₀ after₀ count₀ tables saved frames store answer out after count =
+    (length tables ≡ length tables₀)
+    × (length saved ≡ length saved₀)
+    × (length frames ≡ length frames₀)
     × (length store ≡ length store₀)
     × (length answer ≡ length answer₀)
-    × Written (point trace after₀ frames₀ store₀ answer₀) (point trace after frames store answer) out₀ out count
+    × Written (point trace after₀ tables₀ saved₀ frames₀ store₀ answer₀) (point trace after tables saved frames store answer)
+    out₀
+    out
+    count
 
 abbrev μ-loop : tie.MeasureT-loop
-μ-loop trace frames₀ store₀ answer₀ out₀ after₀ count₀ frames store answer out after count = length trace - after .place
+μ-loop trace tables₀ saved₀ frames₀ store₀ answer₀ out₀ after₀ count₀ tables saved frames store answer out after count =
+    length trace - after .place
 
-abbrev entry : tie.Start Inv-loop μ-loop → Point
-entry s = point (s .args .trace .now) (s .args .run) (s .args .frames .now) (s .args .store .now) (s .args .answer .now)
+abbrev stands : tie.Start Inv-loop μ-loop → Point
+stands s =
+    let a = s .args in
+    point (a .trace .now) (a .run) (a .tables .now) (a .saved .now) (a .frames .now) (a .store .now) (a .answer .now)
 
 returns : tie.Need-returns Inv-loop μ-loop
 returns c =
-    (filled-not (entry (c .before .before .before .before .before .before .before)) (c .before .before .before .before .before .before .before .args .out .now) (c .if1 .taken), counts-in 0 (c .before .before .before .before .before .before .before .args .out .now) (omega arith))
+    let s = c .before .before .before .before .before .before .before .before .before in
+    (filled-not (stands s) (s .args .out .now) (c .if1 .taken), counts-in 0 (s .args .out .now) (omega arith))
 
 loop-holds : tie.Need-loop-holds Inv-loop μ-loop
-loop-holds c = (refl, refl, refl, written-none (entry (c .before .before .before .before .before .before .before)) (c .before .before .before .before .before .before .before .args .out .now) (c .if1 .left))
+loop-holds c =
+    let s = c .before .before .before .before .before .before .before .before .before in
+    (refl, refl, refl, refl, refl, written-none (stands s) (s .args .out .now) (c .if1 .left))
 
 sub-goes-on : tie.Need-sub-goes-on Inv-loop μ-loop
-sub-goes-on c = omega (arith, c .loop .inv .3 .within, c .loop .inv .3 .long)
+sub-goes-on c = omega (arith, c .loop .inv .5 .within, c .loop .inv .5 .long)
 
 goes-on-requires : tie.Need-goes-on-requires Inv-loop μ-loop
 goes-on-requires c κs = search needs
 
 turn-requires : tie.Need-turn-requires Inv-loop μ-loop
 turn-requires c κs =
-    let a = c .before .before .before .before .before .before .before .before .before .before .before .before .before .before .args in
-    let l = c .before .before .before .before .before .before .loop in
-    let on = goes (l .after .place) (length (a .trace .now)) (length (l .out) - l .count) (length (l .answer)) (c .before .before .before .before .before .goes-on .ensures) (c .before .before .before .before .if2 .taken) in
-    record { counted = l .inv .3 .counted; inside = on .0; wide = omega (arith, on .1, l .inv .3 .within, l .inv .3 .long) }
+    let g = c .before .before .before .before .before .before .before in
+    let a = g .before .before .before .before .before .before .before .before .before .before .before .args in
+    let l = g .before .loop in
+    let on =
+    goes (l .after .place) (length (a .trace .now)) (length (l .out) - l .count) (length (l .answer)) (g .goes-on .ensures)
+    (c .before .before .before .before .before .before .if2 .taken) in
+    record { counted = l .inv .5 .counted; inside = on .0; wide = omega (arith, on .1, l .inv .5 .within, l .inv .5 .long) }
 
 loop-less : tie.Need-loop-less Inv-loop μ-loop
 loop-less c =
-    let a = c .before .before .before .before .before .before .before .before .before .before .before .before .before .before .before .before .before .before .before .before .before .before .before .before .args in
-    let l = c .before .before .before .before .before .before .before .before .before .before .before .before .before .before .before .before .loop in
-    let on = goes (l .after .place) (length (a .trace .now)) (length (l .out) - l .count) (length (l .answer)) (c .before .before .before .before .before .before .before .before .before .before .before .before .before .before .before .goes-on .ensures) (c .before .before .before .before .before .before .before .before .before .before .before .before .before .before .if2 .taken) in
-    omega (arith, on .0, turn-further (l .inv .3) on (c .before .before .before .before .before .before .before .before .before .turn .ensures .0), turn-inside (l .inv .3) on (c .before .before .before .before .before .before .before .before .before .turn .ensures .0))
+    let t = c .before .before .before .before .before .before .before .before .before .before .before .before .before in
+    let g = t .before .before .before .before .before .before .before .before in
+    let a = g .before .before .before .before .before .before .before .before .before .before .before .args in
+    let l = g .before .loop in
+    let on =
+    goes (l .after .place) (length (a .trace .now)) (length (l .out) - l .count) (length (l .answer)) (g .goes-on .ensures)
+    (t .before .before .before .before .before .before .before .if2 .taken) in
+    let turned = t .turn .ensures .0 in
+    omega (arith, on .0, turn-further (l .inv .5) on turned, turn-inside (l .inv .5) on turned)
 
 loop-again : tie.Need-loop-again Inv-loop μ-loop
 loop-again c =
-    let a = c .before .before .before .before .before .before .before .before .before .before .before .before .before .before .before .before .before .before .before .before .before .before .before .before .args in
-    let l = c .before .before .before .before .before .before .before .before .before .before .before .before .before .before .before .before .loop in
-    let on = goes (l .after .place) (length (a .trace .now)) (length (l .out) - l .count) (length (l .answer)) (c .before .before .before .before .before .before .before .before .before .before .before .before .before .before .before .goes-on .ensures) (c .before .before .before .before .before .before .before .before .before .before .before .before .before .before .if2 .taken) in
-    (c .before .before .before .before .before .before .before .before .frames .given ∙ l .inv .0, c .before .before .before .before .before .before .store .given ∙ l .inv .1, c .before .before .before .before .answer .given ∙ l .inv .2, written-more (l .inv .3) on (c .before .before .before .before .before .before .before .before .before .turn .ensures .0) (c .before .before .before .before .before .before .before .before .before .turn .ensures .1))
+    let t = c .before .before .before .before .before .before .before .before .before .before .before .before .before in
+    let g = t .before .before .before .before .before .before .before .before in
+    let a = g .before .before .before .before .before .before .before .before .before .before .before .args in
+    let l = g .before .loop in
+    let on =
+    goes (l .after .place) (length (a .trace .now)) (length (l .out) - l .count) (length (l .answer)) (g .goes-on .ensures)
+    (t .before .before .before .before .before .before .before .if2 .taken) in (
+      c .before .before .before .before .before .before .before .before .before .before .before .before .tables .given ∙ l .inv .0,
+      c .before .before .before .before .before .before .before .before .before .before .saved .given ∙ l .inv .1,
+      c .before .before .before .before .before .before .before .before .frames .given ∙ l .inv .2,
+      c .before .before .before .before .before .before .store .given ∙ l .inv .3,
+      c .before .before .before .before .answer .given ∙ l .inv .4,
+      written-more (l .inv .5) on (t .turn .ensures .0) (t .turn .ensures .1),
+    )
 
 same-length : tie.Need-same-length Inv-loop μ-loop
 same-length c = search needs
@@ -69,11 +99,20 @@ same-length-3 c = search needs
 same-length-4 : tie.Need-same-length-4 Inv-loop μ-loop
 same-length-4 c = search needs
 
+same-length-5 : tie.Need-same-length-5 Inv-loop μ-loop
+same-length-5 c = search needs
+
+same-length-6 : tie.Need-same-length-6 Inv-loop μ-loop
+same-length-6 c = search needs
+
 returns-2 : tie.Need-returns-2 Inv-loop μ-loop
 returns-2 c =
-    let s = c .before .before .before .before .before .before .before .before .before .before in
     let l = c .before .before .loop in
-    (written-all (entry s) (s .args .out .now) (c .before .before .before .if1 .left) (l .inv .3) (c .before .goes-on .ensures) (c .if2 .left), counts-in (l .count) (l .out) (omega (arith, l .inv .3 .within, l .inv .3 .long)))
+    let first = c .before .before .before in
+    let s = first .before .before .before .before .before .before .before .before .before in (
+      written-all (stands s) (s .args .out .now) (first .if1 .left) (l .inv .5) (c .before .goes-on .ensures) (c .if2 .left),
+      counts-in (l .count) (l .out) (omega (arith, l .inv .5 .within, l .inv .5 .long)),
+    )
 
 pub fill-spec : {M : Type 1} → statement M
 fill-spec =
@@ -92,4 +131,6 @@ fill-spec =
     same-length-2
     same-length-3
     same-length-4
+    same-length-5
+    same-length-6
     returns-2)

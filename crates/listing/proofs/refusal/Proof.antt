@@ -8,7 +8,9 @@ use Rattle.listing.proofs.refusal.Tie as tie
 
 returns : tie.Need-returns
 unfolding overlay
-returns c = (no-room (c .before .before .args .number) (c .before .before .args .out .now) (c .if1 .taken), counts-in 0 (c .before .before .args .out .now) (omega arith))
+returns c =
+    let a = c .before .before .args in
+    (no-room (a .number) (a .out .now) (c .if1 .taken), counts-in 0 (a .out .now) (omega arith))
 
 refused-line-requires : tie.Need-refused-line-requires
 refused-line-requires c κs = search needs
@@ -18,8 +20,12 @@ same-length c = search needs
 
 returns-2 : tie.Need-returns-2
 returns-2 c =
-    let r = c .before .before .refused-line in
-    (room-for-it (c .before .before .before .before .before .before .args .number) (c .before .before .before .before .before .before .args .out .now) (c .before .before .before .before .if1 .left) (c .before .before .refused-line .ensures .0), counts-in (r .result) (r .last .0) (omega (arith, r .ensures .1)))
+    let put = c .before .before in
+    let r = put .refused-line in
+    let a = put .before .before .before .before .args in (
+      room-for-it (a .number) (a .out .now) (put .before .before .if1 .left) (r .ensures .0),
+      counts-in (r .result) (r .last .0) (omega (arith, r .ensures .1)),
+    )
 
 pub refusal-spec : {M : Type 1} → statement M
 refusal-spec = tie.close (tie.spec returns refused-line-requires same-length returns-2)

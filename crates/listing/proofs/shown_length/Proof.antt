@@ -14,7 +14,9 @@ enum-told : tie.Need-enum-told
 enum-told c = search needs
 
 returns-2 : tie.Need-returns-2
-returns-2 c = shown-read (c .before .before .before .before .args .number) (c .before .event .given .1) (c .before .before .before .if1 .left)
+returns-2 c =
+    let done = c .before .before .before in
+    shown-read (done .before .args .number) (c .before .event .given .1) (done .if1 .left)
 
 returns-3 : tie.Need-returns-3
 returns-3 c = shown-trap (c .before .before .before .args .number) (c .enum-told .given .1) (c .before .before .if1 .left)

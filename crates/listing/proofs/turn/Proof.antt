@@ -26,18 +26,26 @@ enum-known-found c = search needs
 data-of-requires : tie.Need-data-of-requires
 data-of-requires c κs = search needs
 
-abbrev entry : tie.Start → Point
-entry s = point (s .args .trace .now) (s .args .run) (s .args .frames .now) (s .args .store .now) (s .args .answer .now)
+abbrev begun : tie.After-record-at → tie.Start
+begun c = c .before .before .before .before .before .before .before .before .before
+
+abbrev stands : tie.Start → Point
+stands s =
+    let a = s .args in
+    point (a .trace .now) (a .run) (a .tables .now) (a .saved .now) (a .frames .now) (a .store .now) (a .answer .now)
 
 event-turn-requires : tie.Need-event-turn-requires
 event-turn-requires c κs =
-    let s = c .before .before .before .before .before .before .before .before .before .before .before .before .before .before .before in (
-      record-further (entry s) (c .before .before .before .before .before .before .before .before .record-at .ensures) (c .before .before .before .before .before .before .found .given .1) (s .pre .counted),
-      s .pre .wide,
-    )
+    let found = c .before .before .before .before .before .before .before .before in
+    let read = found .before .before in
+    let s = begun read in
+    (record-further (stands s) (read .record-at .ensures) (found .found .given .1) (s .pre .counted), s .pre .wide)
 
 enum-known-found-2 : tie.Need-enum-known-found-2
 enum-known-found-2 c = search needs
+
+used-requires : tie.Need-used-requires
+used-requires c κs = search needs
 
 refused-line-requires : tie.Need-refused-line-requires
 refused-line-requires c κs = search needs
@@ -63,27 +71,49 @@ same-length-3 c = search needs
 same-length-4 : tie.Need-same-length-4
 same-length-4 c = search needs
 
-returns : tie.Need-returns
-returns c =
-    let s = c .before .before .before .before .before .before .before .before .before .before .before .before .before .before .before .before .before .before .before .before .before .before .before .before in (
-      c .before .before .before .before .before .before .before .before .event-turn .ensures .0 ∙ record-turns (entry s) (c .before .before .before .before .before .before .before .before .before .before .before .before .before .before .before .before .before .record-at .ensures) (c .before .before .before .before .before .before .before .before .before .before .before .before .before .before .before .found .given .1) (s .args .at) (s .args .out .now) (c .before .before .before .before .before .before .before .before .before .before .before .before .before .data-of .ensures),
-      c .before .before .before .before .before .before .before .before .event-turn .ensures .1,
-    )
-
 same-length-5 : tie.Need-same-length-5
 same-length-5 c = search needs
 
+same-length-6 : tie.Need-same-length-6
+same-length-6 c = search needs
+
+returns : tie.Need-returns
+returns c =
+    let turned = c .before .before .before .before .before .before .before .before .before .before .before .before in
+    let brought = turned .before .before .before .before .before .before .before in
+    let found = brought .before .before in
+    let read = found .before .before in
+    let s = begun read in (
+      turned .event-turn .ensures .0
+          ∙ record-turns (stands s) (read .record-at .ensures) (found .found .given .1) (s .args .at) (s .args .out .now)
+          (brought .data-of .ensures),
+      turned .event-turn .ensures .1,
+    )
+
+same-length-7 : tie.Need-same-length-7
+same-length-7 c = search needs
+
+same-length-8 : tie.Need-same-length-8
+same-length-8 c = search needs
+
 returns-2 : tie.Need-returns-2
 returns-2 c =
-    let s = c .before .before .before .before .before .before .before .before .before .before .before .before .before .before .before in (
-      refused-turns (entry s) (c .before .before .before .before .before .before .before .before .record-at .ensures) (s .args .at) (s .args .out .now) (c .ended .ensures) (c .before .before .before .before .before .before .found2 .given .1) (c .before .before .before .refused-line .ensures .0),
-      omega (arith, c .before .before .before .refused-line .ensures .1, ap (λ (f : Filled). f .count) (c .ended .ensures)),
+    let line = c .before .before .before in
+    let told = line .before .before in
+    let found = told .before .before .before in
+    let read = found .before .before in
+    let s = begun read in (
+      refused-turns (stands s) (read .record-at .ensures) (s .args .at) (s .args .out .now) (c .ended .ensures)
+          (found .found2 .given .1) (told .used .ensures) (line .refused-line .ensures .0),
+      omega (arith, line .refused-line .ensures .1, ap (λ (f : Filled). f .count) (c .ended .ensures)),
     )
 
 returns-3 : tie.Need-returns-3
 returns-3 c =
-    let s = c .before .before .before .before .before .before .before .before .before .before in (
-      end-turns (entry s) (c .before .before .before .record-at .ensures) (s .args .at) (s .args .out .now) (c .ended2 .ensures) refl (c .before .enum-told .given .1),
+    let read = c .before .before .before in
+    let s = begun read in (
+      end-turns (stands s) (read .record-at .ensures) (s .args .at) (s .args .out .now) (c .ended2 .ensures) refl
+          (c .before .enum-told .given .1),
       omega (arith, ap (λ (f : Filled). f .count) (c .ended2 .ensures)),
     )
 
@@ -99,6 +129,7 @@ turn-spec =
     data-of-requires
     event-turn-requires
     enum-known-found-2
+    used-requires
     refused-line-requires
     ended-requires
     enum-told
@@ -107,7 +138,10 @@ turn-spec =
     same-length-2
     same-length-3
     same-length-4
-    returns
     same-length-5
+    same-length-6
+    returns
+    same-length-7
+    same-length-8
     returns-2
     returns-3)

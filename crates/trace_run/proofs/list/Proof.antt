@@ -18,7 +18,9 @@ slice-aggregate-list-records : tie.Need-slice-aggregate-list-records
 slice-aggregate-list-records c = search needs
 
 list-records-requires : tie.Need-list-records-requires
-list-records-requires c κs = (sym (c .before .before .before .before .opening .ensures) ∙ c .before .before .setup .given .1, omega (arith, c .before .before .before .before .before .large-buffer .ensures))
+list-records-requires c κs =
+    let opened = c .before .before .before .before in
+    (sym (opened .opening .ensures) ∙ c .before .before .setup .given .1, omega (arith, opened .before .large-buffer .ensures))
 
 enum-known-number : tie.Need-enum-known-number
 enum-known-number c = search needs

@@ -1,3 +1,0 @@
--- What a granted look stands on.
-pub mod Within
-pub mod OneAnswer

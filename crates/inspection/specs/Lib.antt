@@ -1,2 +1,0 @@
--- Where the part stands that a look hands back.
-pub mod Where

@@ -1,2 +1,0 @@
--- What the contracts of moving cite beside the rules.
-pub mod Numbers

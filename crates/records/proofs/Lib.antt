@@ -1,2 +1,0 @@
-pub mod Mapping
-pub mod Contexts

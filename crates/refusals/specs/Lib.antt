@@ -1,3 +1,0 @@
--- What the crate's contracts cite beside the rules.
-pub mod Stages
-pub mod Ready
