@@ -1,1 +1,3 @@
 pub mod Handed
+pub mod OneImage
+pub mod NotStarted

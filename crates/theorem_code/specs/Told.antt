@@ -1,6 +1,5 @@
 -- What a run of the code tells: the bytes of an answer, what the kernel is told, when two runs differ only in what is the
--- application's alone, and a run's past. The words are those of `secrecy` and `freshness`, said of what the calls left. Assumes
--- nothing.
+-- application's alone, and a run's past. The words are those of `theorem_secrecy` and `theorem_freshness`, said of what the calls left.
 use mathlib.Core.Path.{_≡_}
 use mathlib.Core.List.{List, [], _∷_}
 use mathlib.Core.Bool.{cond}
@@ -20,10 +19,23 @@ use Rattle.rules.specs.declared.Life.the-variants.{Stopped}
 use Rattle.rules.specs.declared.Named.the-variants.{Nothing}
 use Rattle.rules.specs.declared.Event.{Event}
 use Rattle.rules.specs.declared.Event.the-variants.{KernelRead}
-use Rattle.stepping.specs.Left.{Left}
+use Rattle.rules.specs.declared.Answer.{Answer}
+use Rattle.core_answer.specs.Handed.{Handed, handed, Left}
 use Rattle.theorem_secrecy.specs.Secrets.{DifferInSecrets, forApplication}
 use Rattle.theorem_freshness.specs.Past.{Past}
-use Rattle.theorem_code.specs.Calls.{MayStep, held}
+use Rattle.theorem_code.specs.Calls.{MayStep, tablesLeft, held}
+
+-- an event with its data and its answer buffer
+abbrev pub asking : Event → List ℕ → List ℕ → Ask
+asking e new buffer = record { event = e; new = new; buffer = buffer }
+
+-- what the call for an event is handed, after what was left as p
+abbrev pub handedOn : Given → Left → Ask → Handed
+handedOn g p a = handed (g .setup) (p .tables) (p .saved) (p .frames) (p .store) (g .supply) (a .event) (a .new) (a .buffer)
+
+-- the answer of an event, or a start, that is refused with 10
+abbrev pub ten : Answer
+ten = record { number = 10; seals = 0; unveils = 0; used = 0 }
 
 -- the bytes of an answer: where it is done, the front of the answer buffer, as long as the event's answer is
 abbrev pub answerBytes : Event → Left → List ℕ
@@ -44,17 +56,17 @@ DifferOnlyInSecrets s p [] (a ∷ asks) others = ⊥
 DifferOnlyInSecrets s p (l ∷ lefts) [] others = ⊥
 DifferOnlyInSecrets s p (l ∷ lefts) (a ∷ asks) [] = ⊥
 DifferOnlyInSecrets s p (l ∷ lefts) (a ∷ asks) (b ∷ others) =
-    DifferInSecrets s (p .state .tables) a b × DifferOnlyInSecrets s l lefts asks others
+    DifferInSecrets s (tablesLeft s p) a b × DifferOnlyInSecrets s l lefts asks others
 
--- What two calls left is the same to the kernel: the tables, which hold all but saved registers; each frame that names no page; and
--- what a kernel read, made by a further call of either, would answer and leave in the answer buffer, of any span of any frame.
+-- What two calls left is the same to the kernel: every word of the tables, which hold all but saved registers; each frame that names no
+-- page; and what a kernel read, made by a further call of either, would answer and leave in the answer buffer, of any span of any frame.
 pub record SameToKernel (g : Given) (p q : Left) : Type 0 where
-  pub tables : p .state .tables ≡ q .state .tables
-  pub frames : (f : Gppn) → f .0 < g .setup .frames → namesOf (p .state .tables) f ≡ Nothing
-      → frameBytes (g .setup) f (held p) ≡ frameBytes (g .setup) f (held q)
+  pub tables : p .tables ≡ q .tables
+  pub frames : (f : Gppn) → f .0 < g .setup .frames → namesOf (tablesLeft (g .setup) p) f ≡ Nothing
+      → frameBytes (g .setup) f (held (g .setup) p) ≡ frameBytes (g .setup) f (held (g .setup) q)
   pub looks : (f : Gppn) (x : Span) (buffer : List ℕ) (l k : Left)
-      → MayStep g p (record { event = KernelRead f x; new = []; buffer = buffer }) l
-      → MayStep g q (record { event = KernelRead f x; new = []; buffer = buffer }) k
+      → MayStep g p (asking (KernelRead f x) [] buffer) l
+      → MayStep g q (asking (KernelRead f x) [] buffer) k
       → (l .answer ≡ k .answer) × (l .buffer ≡ k .buffer)
 
 -- Two runs of the code that have left p and q: what they have left is the same to the kernel at each point, and it is told the same of
@@ -69,7 +81,7 @@ SameRuns g p q (a ∷ asks) (b ∷ others) [] rights = ⊥
 SameRuns g p q (a ∷ asks) (b ∷ others) (l ∷ lefts) [] = ⊥
 SameRuns g p q (a ∷ asks) (b ∷ others) (l ∷ lefts) (k ∷ rights) =
     SameToKernel g p q
-    × (kernelTold (g .setup) (p .state .tables) (a .event) l ≡ kernelTold (g .setup) (q .state .tables) (b .event) k)
+    × (kernelTold (g .setup) (tablesLeft (g .setup) p) (a .event) l ≡ kernelTold (g .setup) (tablesLeft (g .setup) q) (b .event) k)
     × SameRuns g l k asks others lefts rights
 
 -- a run's past, the latest event first: what was asked, and the number answered
@@ -80,5 +92,5 @@ pastOf (a ∷ asks) (l ∷ lefts) earlier =
     pastOf asks lefts (record { event = a .event; new = a .new; number = l .answer .number } ∷ earlier)
 
 -- the answer is 8, and the domain is Stopped
-abbrev pub Stopping : Asid → Left → Type 0
-Stopping d l = (l .answer .number ≡ 8) × (lifeOf (l .state .tables) d ≡ Stopped)
+abbrev pub Stopping : Setup → Asid → Left → Type 0
+Stopping s d l = (l .answer .number ≡ 8) × (lifeOf (tablesLeft s l) d ≡ Stopped)

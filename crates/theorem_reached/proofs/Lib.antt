@@ -20,4 +20,5 @@ pub mod DoneOrRefused
 pub mod Answer10
 pub mod Start
 pub mod EveryRun
+pub mod Eights
 pub mod Main

@@ -1,4 +1,4 @@
--- The front of the answer buffer that is left holds the answer's bytes. Assumes nothing.
+-- The front of the answer buffer that is left holds the answer's bytes.
 use mathlib.Core.Path.{_≡_, refl, sym, ap, _∙_}
 use mathlib.Core.Logic.{_≢_}
 use mathlib.Core.List.{List, []}
@@ -14,6 +14,7 @@ use Rattle.rules.specs.Records.{Given, Machine, placeOf, domainOf, withLife, on
 use Rattle.rules.specs.Sealing.{Effect, done, failed, andThen, signature, unveiled, unveil, bringInAt, bringIn}
 use Rattle.rules.specs.Events.{answerLength, row, onFrame, onPage, touching, spanFits, numbersIn, ownFrame, spanBytes, shown, does}
 use Rattle.rules.specs.Answers.{refused, performed, perform, outset, step}
+use Rattle.rules.specs.declared.Setup.{Setup}
 use Rattle.rules.specs.declared.Gppn.{Gppn}
 use Rattle.rules.specs.declared.Asid.{Asid}
 use Rattle.rules.specs.declared.Ctc.{Ctc}
@@ -24,15 +25,16 @@ use Rattle.rules.specs.declared.Life.the-variants.{Stopped}
 use Rattle.rules.specs.declared.Place.{Place}
 use Rattle.rules.specs.declared.Place.the-variants.{Public, Clear, Sealed}
 use Rattle.rules.specs.declared.Event.{Event}
-use Rattle.rules.specs.declared.Event.the-variants.{Begin, End, Map, Unmap, KernelRead, KernelWrite, Resume, Spawn, Leave, Cloak, Uncloak, Read, Write, Trap}
+use Rattle.rules.specs.declared.Event.the-variants.{Begin, End, Map, Unmap, KernelRead, KernelWrite, Resume, Spawn, Leave, Cloak}
+use Rattle.rules.specs.declared.Event.the-variants.{Uncloak, Read, Write, Trap}
 use Rattle.rules.proofs.Facts.{each}
+use Rattle.rules.proofs.Tests.{frame-below}
+use Rattle.rules.proofs.Lists.{length-mapFrom}
+use Rattle.rules.proofs.Granting.{Unrefused}
 use Rattle.rules.proofs.Parts.{overlay-none, overlay-same}
 use Rattle.core_registers.proofs.Laws.{length-bytesOf}
-use Rattle.stepping.specs.Left.{leaves}
-use Rattle.rules.proofs.Lists.{length-mapFrom}
+use Rattle.core_answer.specs.Handed.{leaves}
 use Rattle.theorem_reached.proofs.FramesAndSlots.{frame-whole}
-use Rattle.rules.proofs.Granting.{Unrefused}
-use Rattle.rules.proofs.Tests.{frame-below}
 use Rattle.theorem_reached.proofs.OwnPages.{read-own}
 use Rattle.theorem_reached.proofs.EventsPerformed.{performs}
 use Rattle.theorem_reached.proofs.DoneOrRefused.{step-either}
@@ -63,8 +65,8 @@ module _ (g : Given) where
       go Public = refl
       go (Clear h w) = refl
       go (Sealed k) =
-          pick (sameBytes (frameBytes (g .setup) f m) (signature g k)) (done (unveiled g f d v k m) []) (failed (onTables (withLife d Stopped) m)) refl
-          refl
+          pick (sameBytes (frameBytes (g .setup) f m) (signature g k)) (done (unveiled g f d v k m) [])
+          (failed (onTables (withLife d Stopped) m)) refl refl
 
   -- a page brought in, and then no bytes, or a span of a frame
   then-none : (e : Event) → answerLength e ≡ 0 → (x : Effect) (next : Machine → Machine) → x .bytes ≡ []
@@ -77,8 +79,8 @@ module _ (g : Given) where
       go false q = record { as-many = λ z. absurd (eqb-false (x .number) 0 q z); none = λ _. silent }
 
 -- a span of a frame
-span-long : (g : Given) (m : Machine) → length (m .frames) ≡ g .setup .frames * g .setup .size → (f : Gppn) → f .0 < g .setup .frames → (x : Span)
-    → x .off + x .len ≤ g .setup .size → length (spanBytes (g .setup) f x m) ≡ x .len
+span-long : (g : Given) (m : Machine) → length (m .frames) ≡ g .setup .frames * g .setup .size → (f : Gppn) → f .0 < g .setup .frames
+    → (x : Span) → x .off + x .len ≤ g .setup .size → length (spanBytes (g .setup) f x m) ≡ x .len
 unfolding spanBytes
 span-long g m frames f hf x fits =
     let whole = frame-whole (g .setup) f m hf frames in
@@ -89,14 +91,15 @@ words-long : (new : List ℕ) → length (wordsIn 8 new) ≡ 8
 unfolding wordsIn
 words-long new = refl
 
-shown-long : (k : TrapKind) (mask : ℕ) (new : List ℕ) → length (bytesOf (shown k mask (wordsIn 8 new))) ≡ 64
+shown-long : (c : Ctc) (k : TrapKind) (mask : ℕ) (new : List ℕ)
+    → length (bytesOf (shown k mask (wordsIn 8 new))) ≡ answerLength (Trap c k mask)
 unfolding shown
-shown-long k mask new =
+shown-long c k mask new =
     length-bytesOf _ ∙ ap (λ (n : ℕ). n * 8) (length-mapFrom _ (wordsIn 8 new) 0 ∙ words-long new)
 
 -- a span of a frame, once a page is brought in
-then-span : (g : Given) (e : Event) (f : Gppn) → f .0 < g .setup .frames → (x : Span) → x .off + x .len ≤ g .setup .size → answerLength e ≡ x .len
-    → (brought : Effect) → brought .bytes ≡ []
+then-span : (g : Given) (e : Event) (f : Gppn) → f .0 < g .setup .frames → (x : Span) → x .off + x .len ≤ g .setup .size
+    → answerLength e ≡ x .len → (brought : Effect) → brought .bytes ≡ []
     → length ((andThen brought (λ n. done n (spanBytes (g .setup) f x n))) .machine .frames) ≡ g .setup .frames * g .setup .size
     → Fills e (andThen brought (λ n. done n (spanBytes (g .setup) f x n)))
 unfolding andThen done
@@ -112,23 +115,27 @@ then-span g e f hf x fits long brought silent = go (eqb (brought .number) 0) ref
     go false q whole = record { as-many = λ z. absurd (eqb-false (brought .number) 0 q z); none = λ _. silent }
 
 module _ (g : Given) (m : Machine) (new : List ℕ) (space : ℕ) where
-  kernel-read : (f : Gppn) (x : Span) → Unrefused g m (KernelRead f x) (length new) space → Fills (KernelRead f x) (perform g (KernelRead f x) new m)
+  kernel-read : (f : Gppn) (x : Span) → Unrefused g m (KernelRead f x) (length new) space
+      → Fills (KernelRead f x) (perform g (KernelRead f x) new m)
   unfolding perform does done numbersIn row onFrame spanFits
   kernel-read f x p =
-      let good = (performs g m new space (KernelRead f x) p) .accepted in
+      let good = (performs g m new space (KernelRead f x) p) .accepted .looks in
       fills g (KernelRead f x) _ _
-      (span-long g _ (good .looks .frames) f (frame-below (g .setup) f (p .granted .numbers)) x (leb→le _ _ ((each _ (p .granted .span)) .1 .0)))
+      (span-long g _ (good .frames) f (frame-below (g .setup) f (p .granted .numbers)) x (leb→le _ _ ((each _ (p .granted .span)) .1 .0)))
 
-  read : (c : Ctc) (v : Gvpn) (x : Span) → Unrefused g m (Read c v x) (length new) space → Fills (Read c v x) (perform g (Read c v x) new m)
+  read : (c : Ctc) (v : Gvpn) (x : Span) → Unrefused g m (Read c v x) (length new) space
+      → Fills (Read c v x) (perform g (Read c v x) new m)
   unfolding perform does row touching onPage spanFits
   read c v x p =
       let own = read-own g m c v (length new) space x p in
-      let good = (performs g m new space (Read c v x) p) .accepted in
-      then-span g (Read c v x) (ownFrame (g .setup) (m .tables) c v) (own .frame (p .granted .mapped)) x (leb→le _ _ ((each _ (p .granted .span)) .1 .0)) refl _
-      (bring-none g (ownFrame (g .setup) (m .tables) c v) (domainOf (m .tables) c) v _) (good .looks .frames)
+      let good = (performs g m new space (Read c v x) p) .accepted .looks in
+      let f = ownFrame (g .setup) (m .tables) c v in
+      then-span g (Read c v x) f (own .frame (p .granted .mapped)) x (leb→le _ _ ((each _ (p .granted .span)) .1 .0)) refl _
+      (bring-none g f (domainOf (m .tables) c) v _) (good .frames)
 
   -- every event but a resume
-  event-fills : (e : Event) → forApplication (g .setup) (m .tables) e ≡ false → Unrefused g m e (length new) space → Fills e (perform g e new m)
+  event-fills : (e : Event) → forApplication (g .setup) (m .tables) e ≡ false → Unrefused g m e (length new) space
+      → Fills e (perform g e new m)
   unfolding perform does
   event-fills (Begin d c) seen p = fills g _ _ [] refl
   event-fills (End d) seen p = fills g _ _ [] refl
@@ -144,17 +151,17 @@ module _ (g : Given) (m : Machine) (new : List ℕ) (space : ℕ) where
   event-fills (Read c v x) seen p = read c v x p
   event-fills (Write c v x) seen p =
       then-none g (Write c v x) refl _ _ (bring-none g (ownFrame (g .setup) (m .tables) c v) (domainOf (m .tables) c) v _)
-  event-fills (Trap c k mask) seen p = fills g _ _ _ (shown-long k mask new)
+  event-fills (Trap c k mask) seen p = fills g _ _ _ (shown-long c k mask new)
 
 -- the front of the buffer left
 front : (bytes buffer : List ℕ) (n : ℕ) → length bytes ≡ n → n ≤ length buffer → take n (overlay 0 bytes buffer) ≡ bytes
 front bytes buffer n long room = rw (← long) (overlay-same 0 bytes buffer (omega arith))
 
 -- the bytes of an answer, where the event is done, and where it is answered 8
-answer-at : (e : Event) (x : Effect) (buffer : List ℕ) → Fills e x → answerLength e ≤ length buffer
-    → answerBytes e (leaves (performed x buffer)) ≡ x .bytes
+answer-at : (s : Setup) (e : Event) (x : Effect) (buffer : List ℕ) → Fills e x → answerLength e ≤ length buffer
+    → answerBytes e (leaves s (performed x buffer)) ≡ x .bytes
 unfolding performed
-answer-at e x buffer h room = go (eqb (x .number) 0) refl
+answer-at s e x buffer h room = go (eqb (x .number) 0) refl
   where
     go : (b : Bool) → eqb (x .number) 0 ≡ b → cond b (take (answerLength e) (overlay 0 (x .bytes) buffer)) [] ≡ x .bytes
     go true q = front (x .bytes) buffer (answerLength e) (h .as-many (eqb-true (x .number) 0 q)) room
@@ -162,11 +169,13 @@ answer-at e x buffer h room = go (eqb (x .number) 0) refl
 
 module _ (g : Given) (e : Event) (new buffer : List ℕ) (m : Machine) where
   pub answer-bytes : forApplication (g .setup) (m .tables) e ≡ false
-      → answerBytes e (leaves (step g e new buffer m)) ≡ (step g e new buffer m) .bytes
+      → answerBytes e (leaves (g .setup) (step g e new buffer m)) ≡ (step g e new buffer m) .bytes
   unfolding performed refused outset
   answer-bytes seen =
-      step-either g e new buffer m (λ o. answerBytes e (leaves o) ≡ o .bytes)
-      (λ p. answer-at e (perform g e new (outset m)) buffer (event-fills g (outset m) new (length buffer) e seen p) (p .granted .gives))
+      step-either g e new buffer m (λ o. answerBytes e (leaves (g .setup) o) ≡ o .bytes)
+      (λ p.
+      answer-at (g .setup) e (perform g e new (outset m)) buffer (event-fills g (outset m) new (length buffer) e seen p)
+      (p .granted .gives))
       (λ n _ ne. rw (ne-eqb n 0 ne))
 
   -- the whole buffer: the answer's bytes laid over its front, none where it is refused
@@ -177,10 +186,12 @@ module _ (g : Given) (e : Event) (new buffer : List ℕ) (m : Machine) where
 
   pub room : (step g e new buffer m) .number ≡ 0 → answerLength e ≤ length buffer
   unfolding performed refused
-  room = step-either g e new buffer m (λ o. o .number ≡ 0 → answerLength e ≤ length buffer) (λ p _. p .granted .gives) (λ n _ ne q. absurd (ne q))
+  room =
+      step-either g e new buffer m (λ o. o .number ≡ 0 → answerLength e ≤ length buffer) (λ p _. p .granted .gives)
+      (λ n _ ne q. absurd (ne q))
 
   -- of an event that is done, where the answer is known to be so long
   pub answer-long : (step g e new buffer m) .number ≡ 0 → length ((step g e new buffer m) .bytes) ≡ answerLength e
-      → answerBytes e (leaves (step g e new buffer m)) ≡ (step g e new buffer m) .bytes
+      → answerBytes e (leaves (g .setup) (step g e new buffer m)) ≡ (step g e new buffer m) .bytes
   answer-long ok long =
       rw (ok, buffer-left) (front ((step g e new buffer m) .bytes) buffer (answerLength e) long (room ok))
