@@ -4,20 +4,12 @@ use mathlib.Core.Path.{_≡_}
 use mathlib.Core.List.{List}
 use Prim.Native.Nat.{ℕ, _*_}
 use lib.ListN.{length}
-use denote.Ref.{RefT}
-use denote.Triple.Both.{Both}
 use Rattle.rules.specs.declared.Setup.{Setup}
 use Rattle.rules.specs.declared.Event.{Event}
 use Rattle.rules.specs.declared.Answer.{Answer}
 use Rattle.core_tables.specs.Image as image
+pub use Rattle.core_tables.specs.Lent.{Borrowed, Slice}
 use Rattle.core_answer.specs.Handed.{Handed, handed, left, refuses, stepped, keeps, ends}
-
--- a lent slice at the call, and from the call to the end
-abbrev pub Borrowed : Type 0
-Borrowed = RefT (List ℕ)
-
-abbrev pub Slice : Type 0
-Slice = Both Borrowed Borrowed
 
 -- the event is not refused: what each event's function asks
 abbrev pub Granted : Setup → Borrowed → Borrowed → Borrowed → Borrowed → Borrowed → Event → Borrowed → Borrowed → Type 0

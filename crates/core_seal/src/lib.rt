@@ -1,14 +1,13 @@
 // Sealing and unveiling: the only ways in which a private page's bytes move between frames and store.
 // Each function asks what the rules' acceptance and their count of signatures give (specs/Asked.antt), and does what
 // the rule of its name says, with no byte and no record changed beside.
-ghost use mathlib.Core.List.{List, [], _∷_};
-ghost use Rattle.rules.specs.declared.Registers.{Registers};
+ghost use mathlib.Core.List.{[], _∷_};
 ghost use Prim.Native.Nat.{_<_};
-ghost use Rattle.rules.specs.Records.{given, placeOf};
-ghost use Rattle.rules.specs.Sealing.{seal, sealAll, unveil, sealedFirst, bringIn};
-ghost use Rattle.core_seal.specs.Under.{during, effect, Leaves};
+ghost use Rattle.rules.specs.Records.{placeOf};
+ghost use Rattle.rules.specs.Sealing.{sealedFirst};
 ghost use Rattle.core_tables.specs.Image.{tablesIn};
 ghost use Rattle.core_seal.specs.Asked.{Sealable, Unveilable, Bringable};
+ghost use Rattle.core_seal.specs.Contracts.{Seals, Unveils, SealsAndUnveils, BringsIn};
 use core_seal_bytes::seal_bytes;
 use core_seal_bytes::sealed_with;
 use core_seal_bytes::unveil_bytes;
@@ -46,10 +45,7 @@ pub fn seal(
     f: Gppn,
 ) -> Work
     requires { ⌜ Sealable setup work (now tables) (now frames) (now store) (now supply) f ⌝ }
-    ensures { λ r. ⌜ ((z : List Registers) → Leaves (setup .pages) (now (tables .entry)) (now (tables .exit))
-        (during setup r z (now (tables .exit)) (now (frames .exit)) (now (store .exit)))
-        (seal (given setup (now (supply .entry))) f
-        (during setup work z (now (tables .entry)) (now (frames .entry)) (now (store .entry))))) ⌝ }
+    ensures { λ r. ⌜ Seals setup work tables frames store supply f r ⌝ }
 {
     let frame = f.0 as usize;
     let named = core_tables::slot_at(tables, frame);
@@ -93,10 +89,7 @@ pub fn unveil(
     k: u16,
 ) -> Brought
     requires { ⌜ (Unveilable setup work (now tables) (now frames) (now store) (now supply) f d v) × (k < setup .signatures) ⌝ }
-    ensures { λ r. ⌜ ((z : List Registers) → Leaves (setup .pages) (now (tables .entry)) (now (tables .exit))
-        (effect setup r z (now (tables .exit)) (now (frames .exit)) (now (store .entry)))
-        (unveil (given setup (now (supply .entry))) f d v k
-        (during setup work z (now (tables .entry)) (now (frames .entry)) (now (store .entry))))) ⌝ }
+    ensures { λ r. ⌜ Unveils setup work tables frames store supply f d v k r ⌝ }
 {
     let slot = setup.page_number(d, v);
     let frame = f.0 as usize;
@@ -119,10 +112,8 @@ pub fn unveil(
         };
     }
     core_tables::put_life(tables, d.0 as usize, Life::Stopped);
-    Brought {
-        work,
-        number: Answer::NOT_UNVEILED,
-    }
+    let number = Answer::NOT_UNVEILED;
+    Brought { work, number }
 }
 
 // What is Clear in frame f is sealed; then the page d, v, if it is Sealed, is unveiled there.
@@ -138,11 +129,7 @@ fn seal_and_unveil(
     v: Gvpn,
 ) -> Brought
     requires { ⌜ Bringable setup work (now tables) (now frames) (now store) (now supply) f d v (f ∷ []) ⌝ }
-    ensures { λ r. ⌜ ((z : List Registers) → Leaves (setup .pages) (now (tables .entry)) (now (tables .exit))
-        (effect setup r z (now (tables .exit)) (now (frames .exit)) (now (store .exit)))
-        (bringIn (given setup (now (supply .entry))) f d v
-        (seal (given setup (now (supply .entry))) f
-        (during setup work z (now (tables .entry)) (now (frames .entry)) (now (store .entry)))))) ⌝ }
+    ensures { λ r. ⌜ SealsAndUnveils setup work tables frames store supply f d v r ⌝ }
 {
     let sealed = seal(setup, work, tables, frames, store, supply, f);
     let slot = setup.page_number(d, v);
@@ -171,11 +158,7 @@ pub fn bring_in(
 ) -> Brought
     requires { ⌜ Bringable setup work (now tables) (now frames) (now store) (now supply) f d v
         (sealedFirst f (placeOf setup (tablesIn (setup .pages) (now tables)) d v)) ⌝ }
-    ensures { λ r. ⌜ ((z : List Registers) → Leaves (setup .pages) (now (tables .entry)) (now (tables .exit))
-        (effect setup r z (now (tables .exit)) (now (frames .exit)) (now (store .exit)))
-        (bringIn (given setup (now (supply .entry))) f d v
-        (sealAll (given setup (now (supply .entry))) (sealedFirst f (placeOf setup (tablesIn (setup .pages) (now (tables .entry))) d v))
-        (during setup work z (now (tables .entry)) (now (frames .entry)) (now (store .entry)))))) ⌝ }
+    ensures { λ r. ⌜ BringsIn setup work tables frames store supply f d v r ⌝ }
 {
     let slot = setup.page_number(d, v);
     let place = core_tables::place_at(tables, slot);

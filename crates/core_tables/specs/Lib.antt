@@ -3,3 +3,4 @@ pub mod Words
 pub mod Image
 pub mod Put
 pub mod Tested
+pub mod Lent

@@ -139,23 +139,13 @@ fn event_turn(
     ensures { λ r. ⌜ ListsEvent run next event «data» trace tables saved frames store answer out at r ⌝ }
     ensures { λ r. ⌜ r .count ≤ at + lineRoom (length (now (answer .entry))) ⌝ }
 {
-    let setup = run.setup;
+    let s = run.setup;
     let supply = trace_read::supply(trace);
-    let told = core::step(
-        setup,
-        tables,
-        saved,
-        frames,
-        store,
-        supply,
-        event,
-        data,
-        answer,
-    );
+    let told = core::step(s, tables, saved, frames, store, supply, event, data, answer);
     let shown = shown_length(event, told.number);
     let count = listing_line::event_line(out, at, run.index, event.kind(), told, &answer[..shown]);
     let behind = Run {
-        setup,
+        setup: s,
         place: next,
         index: run.index + 1,
     };

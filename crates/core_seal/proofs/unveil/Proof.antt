@@ -31,8 +31,8 @@ put-move-requires c κs =
       h .0 .page,
     )
 
-add-t24 : tie.Need-add-t24
-add-t24 c = search needs
+add-t25 : tie.Need-add-t25
+add-t25 c = search needs
 
 same-length : tie.Need-same-length
 same-length c = search needs
@@ -90,7 +90,7 @@ unveil-spec =
     cast-frame
     unveil-bytes-requires
     put-move-requires
-    add-t24
+    add-t25
     same-length
     same-length-2
     returns
