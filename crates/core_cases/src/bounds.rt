@@ -1,6 +1,6 @@
 // Numbers at and past the small setup's bounds, in every event that has them.
+use crate::calls::ROOM;
 use crate::world;
-use crate::world::ROOM;
 use rules::Asid;
 use rules::Ctc;
 use rules::Event;

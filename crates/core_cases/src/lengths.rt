@@ -1,6 +1,6 @@
 // Data of a wrong length for each kind, spans that do not fit a page, and answer buffers that are too short.
+use crate::calls::ROOM;
 use crate::world;
-use crate::world::ROOM;
 use rules::Asid;
 use rules::Ctc;
 use rules::Event;
@@ -184,36 +184,42 @@ fn room_in_application() {
     world::step(b"read 4 room 4", Event::Read(Ctc(0), Gvpn(1), s), b"", 4);
 }
 
-// Resume is tried on a context that is Kept; each of these gives eight registers.
+// Each of these gives eight registers.
 fn room_for_registers() {
     let words = [b'r'; 64];
-    let value = b"01234567";
     let trap = Event::Trap(Ctc(0), TrapKind::Call, 255);
     world::step(b"trap room 63", trap, &words, 63);
     world::step(b"trap room 64", trap, &words, 64);
-    let stopped = world::after(world::base(), trap, &words);
-    world::step_on(
-        b"step ",
-        b"resume room 0",
-        stopped,
-        Event::Resume(Asid(0), Ctc(0)),
-        value,
-        0,
+    resume(b"resume room 0", 0);
+    resume(b"resume room 63", 63);
+    resume(b"resume room 64", 64);
+}
+
+// Resume is tried on a context that is Kept.
+fn resume(name: &[u8], room: usize) {
+    let words = [b'r'; 64];
+    let mut tables = [0u16; core_tables::WORDS];
+    let mut saved = [0u64; 8];
+    let mut frames = [0u8; 32];
+    let mut store = [0u8; 32];
+    world::base(&mut tables, &mut saved, &mut frames, &mut store);
+    world::after(
+        &mut tables,
+        &mut saved,
+        &mut frames,
+        &mut store,
+        Event::Trap(Ctc(0), TrapKind::Call, 255),
+        &words,
     );
     world::step_on(
         b"step ",
-        b"resume room 63",
-        stopped,
+        name,
+        &mut tables,
+        &mut saved,
+        &mut frames,
+        &mut store,
         Event::Resume(Asid(0), Ctc(0)),
-        value,
-        63,
-    );
-    world::step_on(
-        b"step ",
-        b"resume room 64",
-        stopped,
-        Event::Resume(Asid(0), Ctc(0)),
-        value,
-        64,
+        b"01234567",
+        room,
     );
 }

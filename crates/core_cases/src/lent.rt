@@ -1,7 +1,11 @@
-// Setups out of range, and lent memory of a wrong length: start, step and look, each on bytes of its own, in the fresh state.
-use crate::lines;
-use crate::looks;
-use crate::same;
+// Setups out of range, and lent memory of a wrong length: start on words that are all 1, step and look in the fresh state, each on words
+// and bytes of its own.
+use crate::calls;
+use crate::calls::ROOM;
+use crate::parts;
+use crate::parts::MOST_BYTES;
+use crate::parts::MOST_REGISTERS;
+use crate::parts::MOST_WORDS;
 use crate::world;
 use rules::Asid;
 use rules::Event;
@@ -9,17 +13,15 @@ use rules::Gppn;
 use rules::Gvpn;
 use rules::Setup;
 use rules::Span;
-use rules::State;
 
-// How many bytes of each are lent.
+// How many words or bytes of each are lent.
 struct Lengths {
+    tables: usize,
+    saved: usize,
     frames: usize,
     store: usize,
     supply: usize,
 }
-
-// As long as a page of the first size past the largest.
-const MOST: usize = 4112;
 
 // The largest usize, and the largest that is a multiple of 16.
 const HUGE: usize = 18446744073709551615;
@@ -37,6 +39,8 @@ pub fn all() {
     frames_lent();
     store_lent();
     supply_lent();
+    tables_lent();
+    saved_lent();
 }
 
 // P, D, V, T, F and N.
@@ -51,86 +55,84 @@ fn setup(p: usize, d: usize, v: usize, t: usize, f: usize, n: usize) -> Setup {
     }
 }
 
-// The lengths of frames, store and supply.
+// The lengths of frames, store and supply; tables are whole, and the saved registers those of one context.
 fn lend(f: usize, s: usize, n: usize) -> Lengths {
+    lend_words(core_tables::WORDS, 8, f, s, n)
+}
+
+// Those of tables and saved registers too.
+fn lend_words(w: usize, r: usize, f: usize, s: usize, n: usize) -> Lengths {
     Lengths {
+        tables: w,
+        saved: r,
         frames: f,
         store: s,
         supply: n,
     }
 }
 
-// The first n bytes, or all where there are fewer.
-fn part<'a>(bytes: &'a [u8], n: usize) -> &'a [u8] {
-    if n < bytes.len() {
-        return &bytes[0..n];
-    }
-    bytes
-}
-
 fn tried(name: &[u8], setup: Setup, lent: Lengths) {
     start(name, setup, lent);
     step(name, setup, lent);
-    let frames = [b'f'; MOST];
-    let store = [b's'; MOST];
-    let frames_lent = part(&frames, lent.frames);
-    let store_lent = part(&store, lent.store);
-    looks::look(
+    look(name, setup, lent);
+}
+
+fn start(name: &[u8], setup: Setup, lent: Lengths) {
+    let mut tables = [1u16; MOST_WORDS];
+    let mut saved = [1u64; MOST_REGISTERS];
+    let mut frames = [b'f'; MOST_BYTES];
+    let mut store = [b's'; MOST_BYTES];
+    let supply = [b'x'; MOST_BYTES];
+    calls::start(
         name,
         setup,
-        State::fresh(),
+        parts::words(&mut tables, lent.tables),
+        parts::registers(&mut saved, lent.saved),
+        parts::bytes(&mut frames, lent.frames),
+        parts::bytes(&mut store, lent.store),
+        parts::read_bytes(&supply, lent.supply),
+    );
+}
+
+// The kernel writes a byte to frame 0.
+fn step(name: &[u8], setup: Setup, lent: Lengths) {
+    let mut tables = [0u16; MOST_WORDS];
+    let mut saved = [0u64; MOST_REGISTERS];
+    let mut frames = [b'f'; MOST_BYTES];
+    let mut store = [b's'; MOST_BYTES];
+    let supply = [b'x'; MOST_BYTES];
+    calls::step(
+        b"step ",
+        name,
+        setup,
+        parts::words(&mut tables, lent.tables),
+        parts::registers(&mut saved, lent.saved),
+        parts::bytes(&mut frames, lent.frames),
+        parts::bytes(&mut store, lent.store),
+        parts::read_bytes(&supply, lent.supply),
+        Event::KernelWrite(Gppn(0), Span { off: 0, len: 1 }),
+        b"!",
+        ROOM,
+    );
+}
+
+fn look(name: &[u8], setup: Setup, lent: Lengths) {
+    let tables = [0u16; MOST_WORDS];
+    let saved = [0u64; MOST_REGISTERS];
+    let frames = [b'f'; MOST_BYTES];
+    let store = [b's'; MOST_BYTES];
+    let frames_lent = parts::read_bytes(&frames, lent.frames);
+    let store_lent = parts::read_bytes(&store, lent.store);
+    calls::look(
+        name,
+        setup,
+        parts::read_words(&tables, lent.tables),
+        parts::read_registers(&saved, lent.saved),
         frames_lent,
         store_lent,
         Asid(0),
         Gvpn(0),
     );
-}
-
-// The answer, then whether frames and store are as before, and the state fresh.
-fn start(name: &[u8], setup: Setup, lent: Lengths) {
-    let mut frames = [b'f'; MOST];
-    let mut store = [b's'; MOST];
-    let supply = [b'x'; MOST];
-    let frames_before = frames;
-    let store_before = store;
-    let started = monitor::start(
-        setup,
-        world::front(&mut frames, lent.frames),
-        world::front(&mut store, lent.store),
-        part(&supply, lent.supply),
-    );
-    listing_line::told(b"start ", name, started.answer);
-    listing_line::kept(core_bytes::same(&frames, &frames_before));
-    listing_line::kept(core_bytes::same(&store, &store_before));
-    listing_line::kept(same::states(started.state, State::fresh()));
-    listing_line::end();
-}
-
-// The kernel writes a byte to frame 0.
-fn step(name: &[u8], setup: Setup, lent: Lengths) {
-    let mut frames = [b'f'; MOST];
-    let mut store = [b's'; MOST];
-    let supply = [b'x'; MOST];
-    let frames_before = frames;
-    let store_before = store;
-    let mut answer = [b'-'; 1];
-    let state = State::fresh();
-    let stepped = monitor::step(
-        setup,
-        state,
-        world::front(&mut frames, lent.frames),
-        world::front(&mut store, lent.store),
-        part(&supply, lent.supply),
-        Event::KernelWrite(Gppn(0), Span { off: 0, len: 1 }),
-        b"!",
-        &mut answer,
-    );
-    listing_line::told(b"step ", name, stepped.answer);
-    listing_line::kept(core_bytes::same(&frames, &frames_before));
-    listing_line::kept(core_bytes::same(&store, &store_before));
-    listing_line::kept(core_bytes::same(&answer, b"-"));
-    listing_line::kept(same::states(stepped.state, state));
-    listing_line::end();
 }
 
 fn sizes() {
@@ -182,9 +184,12 @@ fn pages() {
 }
 
 fn contexts() {
-    tried(b"T 0", setup(16, 1, 2, 0, 2, 2), lend(32, 32, 32));
-    tried(b"T 16", setup(16, 1, 2, 16, 2, 2), lend(32, 32, 32));
-    tried(b"T 17", setup(16, 1, 2, 17, 2, 2), lend(32, 32, 32));
+    let none = lend_words(core_tables::WORDS, 0, 32, 32, 32);
+    let most = lend_words(core_tables::WORDS, 128, 32, 32, 32);
+    let more = lend_words(core_tables::WORDS, 136, 32, 32, 32);
+    tried(b"T 0", setup(16, 1, 2, 0, 2, 2), none);
+    tried(b"T 16", setup(16, 1, 2, 16, 2, 2), most);
+    tried(b"T 17", setup(16, 1, 2, 17, 2, 2), more);
     tried(b"T huge", setup(16, 1, 2, HUGE, 2, 2), lend(32, 32, 32));
 }
 
@@ -224,4 +229,28 @@ fn supply_lent() {
     tried(b"supply 0", small, lend(32, 32, 0));
     tried(b"supply 31", small, lend(32, 32, 31));
     tried(b"supply 33", small, lend(32, 32, 33));
+}
+
+fn tables_lent() {
+    let small = world::small();
+    let whole = core_tables::WORDS;
+    tried(b"tables empty", small, lend_words(0, 8, 32, 32, 32));
+    tried(
+        b"tables one short",
+        small,
+        lend_words(whole - 1, 8, 32, 32, 32),
+    );
+    tried(
+        b"tables one long",
+        small,
+        lend_words(whole + 1, 8, 32, 32, 32),
+    );
+}
+
+fn saved_lent() {
+    let small = world::small();
+    let whole = core_tables::WORDS;
+    tried(b"saved empty", small, lend_words(whole, 0, 32, 32, 32));
+    tried(b"saved one short", small, lend_words(whole, 7, 32, 32, 32));
+    tried(b"saved one long", small, lend_words(whole, 9, 32, 32, 32));
 }

@@ -13,12 +13,21 @@ pub fn number(n: u64) {
     io::print_decimal(STDOUT_FILENO, n);
 }
 
-// Whether bytes or records are as they were before the call.
+// Whether words or bytes are as they were before the call.
 pub fn kept(same: bool) {
     if same {
         text(b" kept");
     } else {
         text(b" changed");
+    }
+}
+
+// Whether the words that a start was lent are all 0.
+pub fn fresh(zero: bool) {
+    if zero {
+        text(b" fresh");
+    } else {
+        text(b" not fresh");
     }
 }
 
