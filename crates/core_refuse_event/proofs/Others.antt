@@ -18,19 +18,19 @@ use Rattle.core_refuse_event.specs.declared.Shape.{Shape}
 abbrev rest : List ℕ
 rest = 0 ∷ 1 ∷ 2 ∷ 3 ∷ 7 ∷ 8 ∷ 9 ∷ 10 ∷ []
 
-pub shape-of-rest : (s : Setup) (e : Event) → OneOf rest (tagOf the-type e) → ShapeOf s e (shapeWith true true 0 0)
+pub shape-of-rest : (s : Setup) (e : Event) → OneOf rest (tagOf the-type e) → ShapeOf s e (shapeWith true true 0)
 unfolding shapeWith row onRecords acting onPage
-shape-of-rest s (Begin d c) k = record { mask = λ t. refl; span = λ t. refl; new = refl; answer = refl }
-shape-of-rest s (End d) k = record { mask = λ t. refl; span = λ t. refl; new = refl; answer = refl }
-shape-of-rest s (Map d v f) k = record { mask = λ t. refl; span = λ t. refl; new = refl; answer = refl }
-shape-of-rest s (Unmap d v) k = record { mask = λ t. refl; span = λ t. refl; new = refl; answer = refl }
+shape-of-rest s (Begin d c) k = record { mask = λ t. refl; span = λ t. refl; answer = refl }
+shape-of-rest s (End d) k = record { mask = λ t. refl; span = λ t. refl; answer = refl }
+shape-of-rest s (Map d v f) k = record { mask = λ t. refl; span = λ t. refl; answer = refl }
+shape-of-rest s (Unmap d v) k = record { mask = λ t. refl; span = λ t. refl; answer = refl }
 shape-of-rest s (KernelRead f x) k = absurd (miss rest 4 tt k)
 shape-of-rest s (KernelWrite f x) k = absurd (miss rest 5 tt k)
 shape-of-rest s (Resume d c) k = absurd (miss rest 6 tt k)
-shape-of-rest s (Spawn c u) k = record { mask = λ t. refl; span = λ t. refl; new = refl; answer = refl }
-shape-of-rest s (Leave c) k = record { mask = λ t. refl; span = λ t. refl; new = refl; answer = refl }
-shape-of-rest s (Cloak c v) k = record { mask = λ t. refl; span = λ t. refl; new = refl; answer = refl }
-shape-of-rest s (Uncloak c v) k = record { mask = λ t. refl; span = λ t. refl; new = refl; answer = refl }
+shape-of-rest s (Spawn c u) k = record { mask = λ t. refl; span = λ t. refl; answer = refl }
+shape-of-rest s (Leave c) k = record { mask = λ t. refl; span = λ t. refl; answer = refl }
+shape-of-rest s (Cloak c v) k = record { mask = λ t. refl; span = λ t. refl; answer = refl }
+shape-of-rest s (Uncloak c v) k = record { mask = λ t. refl; span = λ t. refl; answer = refl }
 shape-of-rest s (Read c v x) k = absurd (miss rest 11 tt k)
 shape-of-rest s (Write c v x) k = absurd (miss rest 12 tt k)
 shape-of-rest s (Trap c i m) k = absurd (miss rest 13 tt k)
@@ -41,6 +41,5 @@ told e f x =
     record {
       mask = λ t. rw (e, f) (x .mask t);
       span = λ t. rw (e, f) (x .span t);
-      new = rw (e, f) (x .new);
       answer = rw (e, f) (x .answer);
     }

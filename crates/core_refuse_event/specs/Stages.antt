@@ -21,12 +21,11 @@ unfoldable pub byShape : Setup → Event → Row → ℕ → ℕ → List Check
 byShape s e r new room =
     shapeChecks (r .mask) (numbersIn s e) (allOf (r .span ∷ eqb new (dataLength e) ∷ [])) (ltb room (answerLength e))
 
-unfoldable pub shapeWith : Bool → Bool → ℕ → ℕ → Shape
-shapeWith m s n a = record { mask = m; span = s; new = n; answer = a }
+unfoldable pub shapeWith : Bool → Bool → ℕ → Shape
+shapeWith m s a = record { mask = m; span = s; answer = a }
 
 -- what the columns of the rules that ask no table say of an event
 pub record ShapeOf (s : Setup) (e : Event) (f : Shape) : Type 0 where
   pub mask : (t : Tables) → f .mask ≡ (row s t e) .mask
   pub span : (t : Tables) → f .span ≡ (row s t e) .span
-  pub new : f .new ≡ dataLength e
   pub answer : f .answer ≡ answerLength e

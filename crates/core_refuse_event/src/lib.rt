@@ -81,37 +81,31 @@ fn span_fits(setup: Setup, x: Span) -> bool
     x.off <= size - len
 }
 
-// Of an event, whether its mask and its span are right, and the lengths of its data and its answer.
+// Of an event, whether its mask and its span are right, and the length of its answer.
 pub struct Shape {
     pub mask: bool,
     pub span: bool,
-    pub new: usize,
     pub answer: usize,
 }
 
-fn shape_with(mask: bool, span: bool, new: usize, answer: usize) -> Shape
-    ensures { λ r. ⌜ r ≡ shapeWith mask span new answer ⌝ }
+fn shape_with(mask: bool, span: bool, answer: usize) -> Shape
+    ensures { λ r. ⌜ r ≡ shapeWith mask span answer ⌝ }
 {
-    Shape {
-        mask,
-        span,
-        new,
-        answer,
-    }
+    Shape { mask, span, answer }
 }
 
-// The kinds that are not named have no mask and no span, and come with no data and no answer.
+// The kinds that are not named have no mask, no span and no answer.
 fn shape_of(setup: Setup, event: Event) -> Shape
     ensures { λ r. ⌜ ShapeOf setup event r ⌝ }
 {
     match event {
-        Event::KernelRead(_, x) => shape_with(true, span_fits(setup, x), 0, x.len),
-        Event::KernelWrite(_, x) => shape_with(true, span_fits(setup, x), x.len, 0),
-        Event::Resume(_, _) => shape_with(true, true, 8, 64),
-        Event::Read(_, _, x) => shape_with(true, span_fits(setup, x), 0, x.len),
-        Event::Write(_, _, x) => shape_with(true, span_fits(setup, x), x.len, 0),
-        Event::Trap(_, kind, mask) => shape_with(mask_fits(kind, mask), true, 64, 64),
-        _ => shape_with(true, true, 0, 0),
+        Event::KernelRead(_, x) => shape_with(true, span_fits(setup, x), x.len),
+        Event::KernelWrite(_, x) => shape_with(true, span_fits(setup, x), 0),
+        Event::Resume(_, _) => shape_with(true, true, 64),
+        Event::Read(_, _, x) => shape_with(true, span_fits(setup, x), x.len),
+        Event::Write(_, _, x) => shape_with(true, span_fits(setup, x), 0),
+        Event::Trap(_, kind, mask) => shape_with(mask_fits(kind, mask), true, 64),
+        _ => shape_with(true, true, 0),
     }
 }
 
@@ -140,7 +134,8 @@ pub fn by_shape(setup: Setup, event: Event, new: usize, room: usize) -> u8
 {
     let shape = shape_of(setup, event);
     let numbers = numbers_in(setup, event);
-    let lengths = both(shape.span, new == shape.new);
+    let data = event.data_length();
+    let lengths = both(shape.span, new == data);
     let short = room < shape.answer;
     shaped(shape.mask, numbers, lengths, short)
 }

@@ -10,6 +10,9 @@ shape-of-requires c κs = search needs
 numbers-in-requires : tie.Need-numbers-in-requires
 numbers-in-requires c κs = search needs
 
+data-length-requires : tie.Need-data-length-requires
+data-length-requires c κs = search needs
+
 both-requires : tie.Need-both-requires
 both-requires c κs = search needs
 
@@ -24,7 +27,7 @@ returns c =
     rw (
       ← shape .mask t,
       ← shape .span t,
-      ← shape .new,
+      ← c .before .before .before .data-length .ensures,
       ← shape .answer,
       ← c .before .before .before .before .numbers-in .ensures,
       ← c .before .before .both .ensures,
@@ -33,4 +36,4 @@ returns c =
 
 pub by-shape-spec : {M : Type 1} → statement M
 by-shape-spec =
-    tie.close (tie.spec shape-of-requires numbers-in-requires both-requires shaped-requires returns)
+    tie.close (tie.spec shape-of-requires numbers-in-requires data-length-requires both-requires shaped-requires returns)

@@ -1,4 +1,4 @@
--- `core_refuse_event::shape_of` meets its contract, event by event; the kinds that are not named have no mask, span, data or answer.
+-- `core_refuse_event::shape_of` meets its contract, event by event; the kinds that are not named have no mask, span or answer.
 use mathlib.Core.Path.{refl}
 use borrow.Author.Needs.{needs}
 use Rattle.rules.specs.Events.{row, onRecords, onFrame, acting, onPage, touching}
@@ -65,37 +65,37 @@ returns : tie.Need-returns
 unfolding shapeWith row onRecords onFrame acting onPage touching
 returns c =
     told (c .before .before .before .event .given .1) (c .shape-with .ensures)
-    (record { mask = λ t. refl; span = λ t. c .before .span-fits .ensures; new = refl; answer = refl })
+    (record { mask = λ t. refl; span = λ t. c .before .span-fits .ensures; answer = refl })
 
 returns-2 : tie.Need-returns-2
 unfolding shapeWith row onRecords onFrame acting onPage touching
 returns-2 c =
     told (c .before .before .before .event2 .given .1) (c .shape-with2 .ensures)
-    (record { mask = λ t. refl; span = λ t. c .before .span-fits2 .ensures; new = refl; answer = refl })
+    (record { mask = λ t. refl; span = λ t. c .before .span-fits2 .ensures; answer = refl })
 
 returns-3 : tie.Need-returns-3
 unfolding shapeWith row onRecords onFrame acting onPage touching
 returns-3 c =
     told (c .before .enum-told .given .1) (c .shape-with3 .ensures)
-    (record { mask = λ t. refl; span = λ t. refl; new = refl; answer = refl })
+    (record { mask = λ t. refl; span = λ t. refl; answer = refl })
 
 returns-4 : tie.Need-returns-4
 unfolding shapeWith row onRecords onFrame acting onPage touching
 returns-4 c =
     told (c .before .before .before .event3 .given .1) (c .shape-with4 .ensures)
-    (record { mask = λ t. refl; span = λ t. c .before .span-fits3 .ensures; new = refl; answer = refl })
+    (record { mask = λ t. refl; span = λ t. c .before .span-fits3 .ensures; answer = refl })
 
 returns-5 : tie.Need-returns-5
 unfolding shapeWith row onRecords onFrame acting onPage touching
 returns-5 c =
     told (c .before .before .before .event4 .given .1) (c .shape-with5 .ensures)
-    (record { mask = λ t. refl; span = λ t. c .before .span-fits4 .ensures; new = refl; answer = refl })
+    (record { mask = λ t. refl; span = λ t. c .before .span-fits4 .ensures; answer = refl })
 
 returns-6 : tie.Need-returns-6
 unfolding shapeWith row onRecords onFrame acting onPage touching
 returns-6 c =
     told (c .before .before .before .event5 .given .1) (c .shape-with6 .ensures)
-    (record { mask = λ t. c .before .mask-fits .ensures; span = λ t. refl; new = refl; answer = refl })
+    (record { mask = λ t. c .before .mask-fits .ensures; span = λ t. refl; answer = refl })
 
 returns-7 : tie.Need-returns-7
 returns-7 c =
