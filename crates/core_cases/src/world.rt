@@ -100,13 +100,27 @@ pub fn base(tables: &mut [u16], saved: &mut [u64], frames: &mut [u8], store: &mu
     private(tables, saved, frames, store, Gvpn(1), Gppn(1), data);
 }
 
-// One event on the base, with room for that many bytes of answer.
-pub fn step(name: &[u8], event: Event, data: &[u8], room: usize) {
-    step_as(b"step ", name, event, data, room);
+// One event on the base, with room for any answer.
+pub fn step(name: &[u8], event: Event, data: &[u8]) {
+    step_as(b"step ", name, event, data);
+}
+
+// The same with no data.
+pub fn bare(name: &[u8], event: Event) {
+    step_as(b"step ", name, event, b"");
 }
 
 // The same, its line begun with other words.
-pub fn step_as(call: &[u8], name: &[u8], event: Event, data: &[u8], room: usize) {
+pub fn step_as(call: &[u8], name: &[u8], event: Event, data: &[u8]) {
+    on_base(call, name, event, data, calls::ROOM);
+}
+
+// With room for that many bytes of answer.
+pub fn step_in(name: &[u8], event: Event, data: &[u8], room: usize) {
+    on_base(b"step ", name, event, data, room);
+}
+
+fn on_base(call: &[u8], name: &[u8], event: Event, data: &[u8], room: usize) {
     let mut tables = [0u16; core_tables::WORDS];
     let mut saved = [0u64; 8];
     let mut frames = [0u8; 32];
