@@ -1,5 +1,7 @@
 // The test of what a caller hands in, answer 10: the setup, the lent lengths, and the words of the tables. A caller may hand in
 // anything, so nothing is asked: the result is the rules' for every setup and all that is lent.
+#![tactic(auto)]
+
 ghost use Rattle.std.specs.Prelude.{◌≡◌};
 ghost use Rattle.core_accept.specs.Acceptable.{lent_right, startable_in, lookable_in, acceptable_in};
 

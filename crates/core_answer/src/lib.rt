@@ -1,4 +1,6 @@
 // The answer that tells of an event: the functions that do events end in one of these.
+#![tactic(auto)]
+
 ghost use Rattle.std.specs.Prelude.{◌≡◌, length};
 ghost use Rattle.core_tables.specs.Image.{image_words};
 ghost use Rattle.core_answer.specs.Contracts.{Tells, Refuses};

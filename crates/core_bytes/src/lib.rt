@@ -1,5 +1,7 @@
 // Bytes: copied, made zero and compared, whole or on one page of a buffer; and a span of bytes within a page.
 // The inner layer under sealing and events: each function asks that what it is handed fits, and its callers show it.
+#![tactic(auto)]
+
 ghost use Rattle.std.specs.Prelude.{◌≡◌, ◌+◌, ◌*◌, ◌≤◌, ◌<◌, length, take, drop, eqb};
 ghost use Rattle.rules.specs.Bytes.{part, with_part, overlay, zeros, same_bytes};
 ghost use Rattle.rules.specs.Sizes.{max_size};

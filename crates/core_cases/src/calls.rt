@@ -6,7 +6,7 @@ use rules::{Answer, Asid, Event, Gvpn, Setup, both};
 pub const ROOM: usize = 64;
 
 // What a step gave: the answer, and whether each is as before; words are those of tables and saved registers.
-#[derive(Drop)]
+#[derive(Clone, Copy)]
 struct Outcome {
     answer: Answer,
     frames: bool,
@@ -42,7 +42,7 @@ pub fn start(
     let no_registers = [0u64; parts::MOST_REGISTERS];
     let frames_before = parts::copy_bytes(frames);
     let store_before = parts::copy_bytes(store);
-    let answer = core::start(setup, tables, saved, frames, store, supply);
+    let answer = core_entry::start(setup, tables, saved, frames, store, supply);
     let zero = same(tables, saved, &no_words, &no_registers);
     lines::told(b"start ", name, answer);
     kept(frames, store, &frames_before, &store_before);
@@ -103,7 +103,7 @@ fn compared(
     data: &[u8],
     buffer: &mut [u8],
 ) -> Outcome {
-    let answer = core::step(
+    let answer = core_entry::step(
         setup, tables, saved, frames, store, supply, event, data, buffer,
     );
     Outcome {
@@ -139,9 +139,9 @@ pub fn look<'a>(
     lines::text(b"look ");
     lines::text(name);
     lines::text(b":");
-    let number = core::look_number(setup, tables, saved, frames, store, d, v);
+    let number = core_entry::look_number(setup, tables, saved, frames, store, d, v);
     lines::number(number as u64);
-    let seen = core::look(setup, tables, saved, frames, store, d, v);
+    let seen = core_entry::look(setup, tables, saved, frames, store, d, v);
     lines::number(seen.len() as u64);
     lines::text(b" [");
     lines::text(seen);

@@ -6,7 +6,7 @@ use crate::{calls, parts, world};
 use rules::{Asid, Event, Gppn, Gvpn, Setup, Span};
 
 // How many words or bytes of each are lent.
-#[derive(Drop)]
+#[derive(Clone, Copy)]
 struct Lengths {
     tables: usize,
     saved: usize,

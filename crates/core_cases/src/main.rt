@@ -2,6 +2,8 @@
 // used, a line says which of frames, store, answer buffer, and tables with saved registers are as before (of a start: frames, store, and
 // whether the words of the tables and saved registers are all fresh); of a look it has the number, how many bytes are handed back, and
 // the bytes.
+#![tactic(auto)]
+
 mod bounds;
 mod calls;
 mod lengths;

@@ -11,7 +11,7 @@ use core_tables::{
 use rules::{Asid, Event, Gppn, Gvpn, Span};
 
 // A word of the tables, and what it is made.
-#[derive(Drop)]
+#[derive(Clone, Copy)]
 struct Change {
     at: usize,
     word: u16,

@@ -20,7 +20,7 @@ pub fn whole() -> Span {
 
 // As freshly started.
 pub fn fresh(tables: &mut [u16], saved: &mut [u64], frames: &mut [u8], store: &mut [u8]) {
-    core::start(
+    core_entry::start(
         small(),
         tables,
         saved,
@@ -40,7 +40,7 @@ pub fn after(
     data: &[u8],
 ) {
     let mut answer = [0u8; calls::ROOM];
-    core::step(
+    core_entry::step(
         small(),
         tables,
         saved,

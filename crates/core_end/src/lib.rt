@@ -1,4 +1,6 @@
 // Kind 1, end: a domain's frames and slots become zero, its pages Public and unmapped, its contexts Free, and it is Empty.
+#![tactic(auto)]
+
 ghost use Rattle.std.specs.Prelude.{◌≡◌, cond, map, ℕ, ◌+◌, ◌*◌, ◌<◌, ◌≤◌, T, length, get_or, set, replicate};
 ghost use Rattle.std.proofs.lemmas.List.Edits.{sets};
 ghost use Rattle.rules.specs.Bytes.{map_from, with_part, zeros};

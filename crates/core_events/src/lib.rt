@@ -1,4 +1,6 @@
 // An event that is granted is done: each of document 01's fourteen by the function of its name.
+#![tactic(auto)]
+
 ghost use Rattle.core_answer.specs.Contracts.{Granted, Steps};
 
 use core_events_application::contexts::{leave, spawn, trap};

@@ -1,4 +1,6 @@
 // The application's events, kinds 7 to 13, each once it is granted: what document 01's table says that it does.
 // Each asks that the rules do not refuse the event, and leaves what the rules leave.
+#![tactic(auto)]
+
 pub mod contexts;
 pub mod pages;

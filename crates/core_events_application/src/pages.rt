@@ -9,7 +9,7 @@ use core_seal::Work;
 use rules::{Answer, Asid, Ctc, Event, Gppn, Gvpn, Named, Place, Setup, Span, Wear};
 
 // Of a context's own page: its domain, the frame that it is mapped to, and its number among all.
-#[derive(Drop)]
+#[derive(Clone, Copy)]
 pub struct Own {
     pub domain: Asid,
     pub frame: Gppn,

@@ -1,5 +1,7 @@
 // The kernel's events, kinds 0 to 6, each once it is granted: what document 01's table says that it does.
 // Each asks that the rules do not refuse the event, and leaves what the rules leave.
+#![tactic(auto)]
+
 ghost use Rattle.core_answer.specs.Contracts.{Granted, Steps};
 
 use core_seal::Work;

@@ -1,5 +1,7 @@
 // The inspector's look at a private page, and the question beside it that gives the number. A look hands back the very part
 // of the frames or of the store that holds the page's bytes, and changes nothing.
+#![tactic(auto)]
+
 ghost use Rattle.std.specs.Prelude.{◌≡◌, [], ◌∷◌, ◌+◌, ◌*◌, ◌≤◌, length};
 ghost use Rattle.rules.specs.Bytes.{part, all_of};
 ghost use Rattle.rules.specs.Sizes.{domain_in, page_in};

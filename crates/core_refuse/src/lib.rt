@@ -1,5 +1,7 @@
 // Why an event is refused, before anything moves: the rules' checks 1, 2, 3, 11, 4, 7, 5 and 6, in that order. (10 is
 // tested before, and 8 comes of doing the event.)
+#![tactic(auto)]
+
 ghost use Rattle.std.specs.Prelude.{◌≡◌};
 ghost use Rattle.rules.specs.Events.{row};
 ghost use Rattle.rules.specs.Answers.{first_of, checks};

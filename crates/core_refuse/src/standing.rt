@@ -132,7 +132,7 @@ pub fn leave(setup: Setup, tables: &[u16], c: Ctc) -> u8
 }
 
 // What an event of a context's on its own page concerns: the context, its domain and the page.
-#[derive(Drop)]
+#[derive(Clone, Copy)]
 pub struct Own {
     pub activity: Activity,
     pub life: Life,

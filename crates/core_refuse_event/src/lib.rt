@@ -1,5 +1,7 @@
 // The checks that ask no table: the event by itself, against the setup and the lengths that come with it. A function for
 // each column of the rules, then the order of the checks.
+#![tactic(auto)]
+
 ghost use Rattle.std.specs.Prelude.{◌≡◌, [], ◌∷◌, ltb};
 ghost use Rattle.rules.specs.Bytes.{all_of};
 ghost use Rattle.rules.specs.Events.{row, numbers_in, span_fits, mask_fits};
@@ -76,7 +78,7 @@ fn span_fits(setup: Setup, x: Span) -> bool
 }
 
 // Of an event, whether its mask and its span are right, and the length of its answer.
-#[derive(Drop)]
+#[derive(Clone, Copy)]
 pub struct Shape {
     pub mask: bool,
     pub span: bool,

@@ -1,5 +1,7 @@
 // Eight 64-bit registers, in and out of bytes, and what of them is shown at a trap and given back at a resume.
 // Numbers are big-endian. A reader's definitions are those of the rules (specs/Bytes.antt and specs/Events.antt there).
+#![tactic(auto)]
+
 ghost use Rattle.std.specs.Prelude.{◌≡◌, cond, List, ℕ, ◌<◌, ◌≤◌, length, get_or, set};
 ghost use Rattle.rules.specs.Bytes.{number, words_in, bytes_of, overlay};
 ghost use Rattle.rules.specs.Events.{shows, shown, resumed};

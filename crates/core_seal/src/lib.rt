@@ -1,6 +1,8 @@
 // Sealing and unveiling: the only ways in which a private page's bytes move between frames and store.
 // Each function asks what the rules' acceptance and their count of signatures give (specs/Asked.antt), and does what
 // the rule of its name says, with no byte and no record changed beside.
+#![tactic(auto)]
+
 ghost use Rattle.std.specs.Prelude.{[], ◌∷◌, ◌<◌};
 ghost use Rattle.rules.specs.Records.{place_of};
 ghost use Rattle.rules.specs.Sealing.{sealed_first};
@@ -12,14 +14,14 @@ use core_seal_bytes::{seal_bytes, sealed_with, unveil_bytes, used_after};
 use rules::{Answer, Asid, Gppn, Gvpn, Life, Named, Place, Setup, Wear};
 
 // The counts of the event under way.
-#[derive(Drop)]
+#[derive(Clone, Copy)]
 pub struct Work {
     pub seals: u8,
     pub unveils: u8,
 }
 
 // What bringing a page in comes to: done, or the number of a failed unveiling.
-#[derive(Drop)]
+#[derive(Clone, Copy)]
 pub struct Brought {
     pub work: Work,
     pub number: u8,

@@ -1,4 +1,6 @@
 // What sealing and unveiling are made of: the number of the signature, and the bytes that move between frames and store.
+#![tactic(auto)]
+
 ghost use Rattle.std.specs.Prelude.{◌≡◌, ◌+◌, ◌*◌, ◌<◌, ◌≤◌, length};
 ghost use Rattle.rules.specs.Sizes.{max_signatures};
 ghost use Rattle.rules.specs.Sealing.{sealed_with, takes};

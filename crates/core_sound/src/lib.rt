@@ -1,4 +1,6 @@
 // Whether lent tables are the one image of a sound state. Each loop gathers with | what is wrong, and has no way out.
+#![tactic(auto)]
+
 ghost use Rattle.std.specs.Prelude.{◌≡◌, List, true, ℕ, ◌+◌, ◌<◌, ◌≤◌, length};
 ghost use Rattle.rules.specs.Sizes.{setup_in_range, max_domains, max_pages};
 ghost use Rattle.core_tables.specs.Image.{image_words, word_at, domains_at};

@@ -1,5 +1,7 @@
 // The lent tables: words of 16 bits at fixed places, each "0 none, n + 1". A record is read into the value that the rules
 // speak of, and written back from it; nothing else is touched. The saved registers are lent apart, eight words a context.
+#![tactic(auto)]
+
 ghost use Rattle.std.specs.Prelude.{◌≡◌, ℕ, ◌<◌, ◌≤◌, length, get_or};
 ghost use Rattle.rules.specs.Bytes.{zeros};
 ghost use Rattle.rules.specs.Sizes.{max_domains, max_pages, max_contexts, max_frames};

@@ -1,5 +1,7 @@
 // What programs in C or Rust link: copying, zeroing and comparing bytes, and the reader, each under a plain name and with a
 // contract for every input. Slices come as a pointer and a length.
+#![tactic(auto)]
+
 ghost use Rattle.std.specs.Prelude.{◌≡◌, length};
 ghost use Rattle.rules.specs.Bytes.{zeros, same_bytes};
 ghost use Rattle.exports.specs.Leaves.{copied};

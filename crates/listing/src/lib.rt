@@ -1,4 +1,6 @@
 // The listing of a trace, as document 01 has trace-run print it: the header's checks, the start, and an output filled with lines.
+#![tactic(auto)]
+
 ghost use Rattle.std.specs.Prelude.{◌≡◌, ◌+◌, ◌<◌, ◌≤◌, [], ◌∷◌, length, nat_le, nat_lt};
 ghost use Rattle.io.specs.Counts.{IsPrefixLen};
 ghost use Rattle.rules.specs.Bytes.{all_of};
@@ -12,7 +14,7 @@ use rules::{Answer, Event, Setup};
 use trace_read::{Found, Header};
 
 // Where a run over a trace stands: all that is kept from one call to the next, but for what is lent.
-#[derive(Drop)]
+#[derive(Clone, Copy)]
 pub struct Run {
     pub setup: Setup,
     // Of the next record: its place in the trace, and its index.
@@ -21,7 +23,7 @@ pub struct Run {
 }
 
 // A run behind some lines, and how many bytes of the output those take.
-#[derive(Drop)]
+#[derive(Clone, Copy)]
 pub struct Filled {
     pub run: Run,
     pub count: usize,
@@ -87,7 +89,7 @@ pub fn start(
 ) -> Run
     ensures { Starts trace setup place tables saved frames store result }
 {
-    core::start(
+    core_entry::start(
         setup,
         tables,
         saved,
@@ -137,7 +139,7 @@ fn event_turn(
 {
     let s = run.setup;
     let supply = trace_read::supply(trace);
-    let told = core::step(s, tables, saved, frames, store, supply, event, data, answer);
+    let told = core_entry::step(s, tables, saved, frames, store, supply, event, data, answer);
     let shown = shown_length(event, told.number);
     let count = listing_line::event_line(out, at, run.index, event.kind(), told, &answer[..shown]);
     let behind = Run {

@@ -1,8 +1,10 @@
 // A line of the listing, written over an output from a place on: an event's, and that of a record or header which is refused.
 // The inner layer under runner: each function asks that there is room, and its callers show it.
+#![tactic(auto)]
+
 ghost use Rattle.std.specs.Prelude.{◌≡◌, ◌+◌, ◌*◌, ◌≤◌, ◌<◌, [], ◌∷◌, ◌++◌, length};
 ghost use Rattle.io.specs.Digits.{hex_digit_ascii};
-ghost use Rattle.listing_line.specs.Lines.{newline, dash, decimal, hex as hexOf, last_field, field_then, counts_then, line};
+ghost use Rattle.listing_line.specs.Lines.{newline, dash, decimal, hex as hex_of, last_field, field_then, counts_then, line};
 ghost use Rattle.listing_line.specs.Lines.{refused_line, Put};
 
 use rules::Answer;
@@ -51,7 +53,7 @@ fn digit(d: u8) -> u8
 // Bytes in hex: two digits for each.
 fn hex(out: &mut [u8], at: usize, bytes: &[u8]) -> usize
     requires { at + 2 * length bytes.now ≤ length out.old }
-    ensures { Put at (hexOf bytes.now) out.old result out.new }
+    ensures { Put at (hex_of bytes.now) out.old result out.new }
 {
     for i in 0..bytes.len() {
         let b = bytes[i];

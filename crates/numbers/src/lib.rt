@@ -1,5 +1,7 @@
 // Big-endian numbers of at most eight bytes, loaded from bytes and stored in them. A register is such a number, and so is
 // the head of a trace's record. A reader's definitions are those of the rules (specs/Bytes.antt there).
+#![tactic(auto)]
+
 ghost use Rattle.std.specs.Prelude.{◌≡◌, ◌++◌, ◌≤◌, length, take, drop};
 ghost use Rattle.rules.specs.Bytes.{big_endian, number};
 

@@ -1,5 +1,7 @@
 // The types of the monitor core: setup, numbers, records, state, events and answers.
 // What they mean is in specs/, which condenses document 01's core.
+#![tactic(auto)]
+
 ghost use Rattle.std.specs.Prelude.{◌≡◌, ◌<◌, not, [], ◌∷◌};
 ghost use Rattle.rules.specs.Bytes.{all_of};
 ghost use Rattle.rules.specs.Sizes.{between, setup_in_range};
@@ -11,20 +13,20 @@ ghost use Rattle.rules.specs.Events.{kind_of, data_length};
 
 // Numbers, each of its own kind so that none is taken for another, under the sources' names.
 // A domain: address space identifier.
-#[derive(Drop)]
+#[derive(Clone, Copy)]
 pub struct Asid(pub u8);
 // A page of a domain: guest virtual page number.
-#[derive(Drop)]
+#[derive(Clone, Copy)]
 pub struct Gvpn(pub u8);
 // A frame: guest physical page number.
-#[derive(Drop)]
+#[derive(Clone, Copy)]
 pub struct Gppn(pub u8);
 // A context: cloaked thread context.
-#[derive(Drop)]
+#[derive(Clone, Copy)]
 pub struct Ctc(pub u8);
 
 // How large a run is: the page size P in bytes, then D, V (pages of each domain), T, F and N.
-#[derive(Drop)]
+#[derive(Clone, Copy)]
 pub struct Setup {
     pub size: usize,
     pub domains: usize,
@@ -79,6 +81,7 @@ impl Setup {
     }
 }
 
+#[tactic(auto, unfolding(crate::specs::Sizes::between))]
 fn within(low: usize, high: usize, n: usize) -> bool
     ensures { result ≡ between low high n }
 {
@@ -86,13 +89,14 @@ fn within(low: usize, high: usize, n: usize) -> bool
 }
 
 // Both of two tests hold.
+#[tactic(auto, unfolding(crate::specs::Bytes::all_of))]
 pub fn both(a: bool, b: bool) -> bool
     ensures { result ≡ all_of (a ∷ b ∷ []) }
 {
     if a { b } else { false }
 }
 
-#[derive(Drop)]
+#[derive(Clone, Copy)]
 pub enum Life {
     Empty,
     Live,
@@ -122,14 +126,14 @@ impl Life {
 }
 
 // Why a context was stopped; what of its registers the kernel is shown goes by it.
-#[derive(Drop)]
+#[derive(Clone, Copy)]
 pub enum TrapKind {
     Interrupt,
     Call,
 }
 
 // The registers of a Kept context stand in State, beside the tables.
-#[derive(Drop)]
+#[derive(Clone, Copy)]
 pub enum Activity {
     Free,
     Running(Asid),
@@ -180,7 +184,7 @@ impl Activity {
     }
 }
 
-#[derive(Drop)]
+#[derive(Clone, Copy)]
 pub enum Mapping {
     Unmapped,
     Mapped(Gppn),
@@ -208,13 +212,13 @@ impl Mapping {
 }
 
 // Of a Clear page: whether it was written since it was last sealed, or else the signature that it was sealed with.
-#[derive(Drop)]
+#[derive(Clone, Copy)]
 pub enum Wear {
     Dirty,
     Clean(u16),
 }
 
-#[derive(Drop)]
+#[derive(Clone, Copy)]
 pub enum Place {
     Public,
     Clear(Gppn, Wear),
@@ -244,6 +248,7 @@ impl Place {
     }
 
     // The signatures that sealing a page here takes: one for a dirty page.
+    #[tactic(auto, unfolding(crate::specs::Sealing::takes_at, crate::specs::Sealing::takes))]
     pub fn takes(self) -> u8
         ensures { result ≡ takes_at self }
     {
@@ -258,40 +263,40 @@ impl Place {
     }
 }
 
-#[derive(Drop)]
+#[derive(Clone, Copy)]
 pub enum Named {
     Nothing,
     Page(Asid, Gvpn),
 }
 
-#[derive(Drop)]
+#[derive(Clone, Copy)]
 pub struct DomainRecord {
     pub life: Life,
 }
 
-#[derive(Drop)]
+#[derive(Clone, Copy)]
 pub struct ContextRecord {
     pub activity: Activity,
 }
 
-#[derive(Drop)]
+#[derive(Clone, Copy)]
 pub struct PageRecord {
     pub mapping: Mapping,
     pub place: Place,
 }
 
-#[derive(Drop)]
+#[derive(Clone, Copy)]
 pub struct FrameRecord {
     pub names: Named,
 }
 
-#[derive(Drop)]
+#[derive(Clone, Copy)]
 pub struct Registers {
     pub words: [u64; 8],
 }
 
 // What the kernel's view of a run follows from, beside the bytes of its frames. A page's entry is d * V + v.
-#[derive(Drop)]
+#[derive(Clone, Copy)]
 pub struct Tables {
     pub domains: [DomainRecord; Setup::MAX_DOMAINS],
     pub contexts: [ContextRecord; Setup::MAX_CONTEXTS],
@@ -301,7 +306,7 @@ pub struct Tables {
 }
 
 // All that is kept from event to event, but for the lent bytes.
-#[derive(Drop)]
+#[derive(Clone, Copy)]
 pub struct State {
     pub tables: Tables,
     pub saved: [Registers; Setup::MAX_CONTEXTS],
@@ -342,14 +347,14 @@ impl State {
 }
 
 // Bytes of a page: len of them from off on.
-#[derive(Drop)]
+#[derive(Clone, Copy)]
 pub struct Span {
     pub off: usize,
     pub len: usize,
 }
 
 // The kernel's events, then the application's, in the order of their kinds.
-#[derive(Drop)]
+#[derive(Clone, Copy)]
 pub enum Event {
     Begin(Asid, Ctc),
     End(Asid),
@@ -418,7 +423,7 @@ impl Event {
 
 // What is told of an event, beside the answer's bytes: its number, the seals and unveils it made, and the
 // signatures used since the fresh start.
-#[derive(Drop)]
+#[derive(Clone, Copy)]
 pub struct Answer {
     pub number: u8,
     pub seals: u8,

@@ -1,4 +1,4 @@
--- A run of the code: a call of `core::start`, then calls of `core::step`, each handed the words and bytes that the call before left. Of
+-- A run of the code: a call of `core_entry::start`, then calls of `core_entry::step`, each handed the words and bytes that the call before left. Of
 -- a call only its promise is used: `Post` is what the checker itself reads of the function's `ensures`.
 use Rattle.std.specs.Prelude.{◌≡◌, ℕ, ◌*◌, ◌≤◌, T, List, [], ◌∷◌, length, replicate}
 use contract.Lifetimes.{Lfts}
@@ -40,7 +40,7 @@ pub record WordsRight (s : Setup) (lent : Memory) : Type 0 where
   pub saved : length lent.saved ≡ 8 * s.contexts
   pub contexts : s.contexts ≤ max_contexts
 
--- A call of `core::start` with this setup and supply, lent this memory, may leave l: its promise allows the answer, words and bytes that
+-- A call of `core_entry::start` with this setup and supply, lent this memory, may leave l: its promise allows the answer, words and bytes that
 -- l is made of.
 pub record MayStart (g : Given) (lent : Memory) (l : Left) : Type 0 where
   pub lifetimes : Lfts 5
@@ -56,7 +56,7 @@ pub record MayStart (g : Given) (lent : Memory) (l : Left) : Type 0 where
   pub supply_lent : handed.1.1.1.1.1.0.now ≡ g.supply
   pub leaves : left result at_exit.1.0.now at_exit.1.1.0.now at_exit.1.1.1.0.now at_exit.1.1.1.1.0.now [] ≡ l
 
--- A call of `core::step` with this setup and supply, handed the words and bytes that were left as p, and the event, data and answer
+-- A call of `core_entry::step` with this setup and supply, handed the words and bytes that were left as p, and the event, data and answer
 -- buffer of a, may leave l.
 pub record MayStep (g : Given) (p : Left) (a : Ask) (l : Left) : Type 0 where
   pub lifetimes : Lfts 7

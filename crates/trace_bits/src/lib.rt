@@ -1,5 +1,7 @@
 // Bit fields of any width, most significant bit first, in one number: they are taken out of it by shifts, and the number is
 // built from them one by one.
+#![tactic(auto)]
+
 ghost use Rattle.std.specs.Prelude.{◌≡◌, ◌+◌, ◌/◌, ◌%◌, ◌^◌, ◌<◌};
 ghost use Rattle.trace_bits.specs.Packing.{Bare, Room, Longer};
 
@@ -13,7 +15,7 @@ pub fn field(n: usize, below: usize, width: usize) -> usize
 }
 
 // A number that fields are written into, one behind the other, and how many bits it has by now.
-#[derive(Drop)]
+#[derive(Clone, Copy)]
 pub struct Packed {
     pub number: usize,
     pub bits: usize,

@@ -1,5 +1,7 @@
 // The form of a record: how wide each kind's fields are, how a head is packed into a number and taken out of one again,
 // and which event has which fields. The reader and the writer are both built on it.
+#![tactic(auto)]
+
 ghost use Rattle.std.specs.Prelude.{◌≡◌, ◌+◌, ◌^◌, ◌<◌, ◌≤◌};
 ghost use Rattle.trace_bits.specs.Packing.{join, split};
 ghost use Rattle.trace_form.specs.Form.{Right, numbers, with_span, widths_of, used_bits, head_for, head_of, head_widths};
@@ -11,7 +13,7 @@ use rules::{Asid, Ctc, Event, Gppn, Gvpn, Span, TrapKind};
 use trace_bits::Packed;
 
 // What a trace's form may change: the bits of a kind and of a context, and how many kinds there are.
-#[derive(Drop)]
+#[derive(Clone, Copy)]
 pub struct Form {
     pub kind: usize,
     pub context: usize,
@@ -87,7 +89,7 @@ impl Form {
 }
 
 // The bits of a kind's fields: up to three numbers, then a span's; 0 where there is no such field.
-#[derive(Drop)]
+#[derive(Clone, Copy)]
 pub struct Widths {
     pub first: usize,
     pub second: usize,
@@ -121,7 +123,7 @@ fn with_span(first: usize, second: usize) -> Widths
 }
 
 // A record before its data: the bits of its kind, its fields and its padding, and the bytes that they take.
-#[derive(Drop)]
+#[derive(Clone, Copy)]
 pub struct Head {
     pub kind: usize,
     pub widths: Widths,
@@ -194,7 +196,7 @@ fn head_for(kind: usize, widths: Widths) -> Head
 }
 
 // What a kind's fields hold.
-#[derive(Drop)]
+#[derive(Clone, Copy)]
 pub struct Fields {
     pub first: u8,
     pub second: u8,

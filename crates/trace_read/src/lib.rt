@@ -1,5 +1,7 @@
 // The reader: a trace's header, and its records one after the other. Nothing is copied; the supply and a record's data
 // are parts of the trace.
+#![tactic(auto)]
+
 ghost use Rattle.std.specs.Prelude.{◌≡◌, ◌+◌, ◌-◌, ◌/◌, ◌^◌, ◌≤◌, ◌<◌, length, take, drop};
 ghost use Rattle.trace_bits.specs.Packing.{split};
 ghost use Rattle.trace_form.specs.Form.{Right, first, event_of};
@@ -12,7 +14,7 @@ use rules::{Answer, Event, Setup};
 use trace_form::{Fields, Form};
 
 // What a trace's header says.
-#[derive(Drop)]
+#[derive(Clone, Copy)]
 pub enum Header {
     // The setup, and the place where the records start.
     Sizes(Setup, usize),
@@ -21,7 +23,7 @@ pub enum Header {
 }
 
 // What stands at a place of a trace.
-#[derive(Drop)]
+#[derive(Clone, Copy)]
 pub enum Found {
     // No bytes are left.
     End,
@@ -37,7 +39,7 @@ pub enum Found {
 }
 
 // Whose events a record's kind makes.
-#[derive(Drop)]
+#[derive(Clone, Copy)]
 pub enum Owner {
     Kernel,
     Application,
@@ -275,7 +277,7 @@ pub fn place_after(place: usize, found: Found) -> usize
 
 // The reader: the bytes of a trace that are still unread, and their place. Its functions take it apart and leave the work
 // to those above, on a plain slice and a number.
-#[derive(Drop)]
+#[derive(Clone, Copy)]
 pub struct Reader<'a> {
     pub unread: &'a [u8],
     pub place: usize,

@@ -1,5 +1,7 @@
 // trace-run: a trace on standard input, its listing on standard output, as document 01 says, and nothing else. All of the input is
 // read before anything is written. What the lines are is promised by listing; here they are read and written.
+#![tactic(auto)]
+
 ghost use Rattle.std.specs.Prelude.{◌≡◌, ◌≤◌, length};
 ghost use Rattle.listing.specs.Opening.{opening_at};
 ghost use Rattle.listing.specs.Listing.{answer_room};
@@ -10,7 +12,7 @@ use rules::Setup;
 use trace_read::Header;
 
 // What was read: how many bytes, unless reading failed.
-#[derive(Drop)]
+#[derive(Clone, Copy)]
 struct Input {
     count: usize,
     whole: bool,

@@ -1,4 +1,6 @@
 // The writer: a trace's header, and its records one after the other, each at the front of the output that it is lent.
+#![tactic(auto)]
+
 ghost use Rattle.std.specs.Prelude.{◌≡◌, ◌++◌, ◌+◌, ◌^◌, ◌≤◌, ◌<◌, length, ltb};
 ghost use Rattle.trace_bits.specs.Packing.{join};
 ghost use Rattle.rules.specs.Bytes.{overlay, big_endian};
@@ -13,7 +15,7 @@ use trace_bits::Packed;
 use trace_form::{Fields, Form, Head, Widths};
 
 // What writing answers: the number, and how many bytes were written, 0 where it was refused.
-#[derive(Drop)]
+#[derive(Clone, Copy)]
 pub struct Wrote {
     pub number: u8,
     pub count: usize,

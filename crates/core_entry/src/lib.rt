@@ -1,0 +1,95 @@
+// The entry points of the core. Each tests what it is given: whatever that is, the answer and every word and byte left are the ones that
+// the rules give.
+#![tactic(auto)]
+
+ghost use Rattle.std.specs.Prelude.{◌≡◌};
+ghost use Rattle.core_answer.specs.Contracts.{Steps};
+ghost use Rattle.core_look.specs.Look.{NumberOf, Shows};
+ghost use Rattle.core_entry.specs.Started.{Starts};
+
+use rules::{Answer, Asid, Event, Gvpn, Setup};
+
+// Fresh tables and saved registers, and the lent frames and store zero; or, refused with 10, the same fresh words, and no byte changed.
+pub fn start(
+    setup: Setup,
+    tables: &mut [u16],
+    saved: &mut [u64],
+    frames: &mut [u8],
+    store: &mut [u8],
+    supply: &[u8],
+) -> Answer
+    ensures { Starts setup tables saved frames store supply result }
+{
+    let taken = core_accept::startable(setup, tables, saved, frames, store, supply);
+    core_tables::zero(tables);
+    core_tables::saved::zero(saved);
+    let mut number = Answer::NOT_ACCEPTABLE;
+    if taken {
+        core_bytes::zero(frames);
+        core_bytes::zero(store);
+        number = Answer::DONE;
+    }
+    Answer {
+        number,
+        seals: 0,
+        unveils: 0,
+        used: 0,
+    }
+}
+
+// One event: the answer; tables, saved registers, frames, store and answer buffer are as the rules leave them.
+pub fn step(
+    setup: Setup,
+    tables: &mut [u16],
+    saved: &mut [u64],
+    frames: &mut [u8],
+    store: &mut [u8],
+    supply: &[u8],
+    event: Event,
+    data: &[u8],
+    answer: &mut [u8],
+) -> Answer
+    ensures { Steps setup tables saved frames store supply event «data» answer result }
+{
+    if !core_accept::acceptable(setup, tables, saved, frames, store, supply) {
+        return core_answer::refused(tables, Answer::NOT_ACCEPTABLE);
+    }
+    let number = core_refuse::refusal(setup, tables, event, data.len(), answer.len());
+    if number != Answer::DONE {
+        return core_answer::refused(tables, number);
+    }
+    core_events::perform(
+        setup, tables, saved, frames, store, supply, event, data, answer,
+    )
+}
+
+// The inspector's look at a private page: the part of the frames (Clear) or of the store (Sealed) that holds its bytes, itself and not
+// a copy; an empty part where it is refused.
+pub fn look<'a>(
+    setup: Setup,
+    tables: &[u16],
+    saved: &[u64],
+    frames: &'a [u8],
+    store: &'a [u8],
+    domain: Asid,
+    page: Gvpn,
+) -> &'a [u8]
+    ensures { Shows setup tables saved frames store domain page result }
+{
+    core_look::look(setup, tables, saved, frames, store, domain, page)
+}
+
+// The question beside the look: the number that it is answered with, 0, 10, 2 or 4.
+pub fn look_number(
+    setup: Setup,
+    tables: &[u16],
+    saved: &[u64],
+    frames: &[u8],
+    store: &[u8],
+    domain: Asid,
+    page: Gvpn,
+) -> u8
+    ensures { result ≡ NumberOf setup tables saved frames store domain page }
+{
+    core_look::look_number(setup, tables, saved, frames, store, domain, page)
+}
