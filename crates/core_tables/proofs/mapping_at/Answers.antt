@@ -1,0 +1,7 @@
+use Rattle.std.proofs.Common.{sym, ap, ◌∙◌}
+use Rattle.rules.specs.declared.PageRecord.{PageRecord}
+use Rattle.core_tables.proofs.Reading.{page_there}
+use Rattle.core_tables.proofs.mapping_at.Goals as goal
+
+pub returns : goal.returns
+returns c = λ v. c.mapping_in.ensures ∙ sym (ap (λ (r : PageRecord). r.mapping) (page_there v _ _ c.requires.1))
