@@ -56,6 +56,7 @@ impl Form {
     pub const HEADER: usize = 6;
 
     // The widths of a kind's fields, case by case.
+    #[tactic(auto, unfolding(crate::specs::Form::widths_of))]
     pub fn widths(self, kind: usize) -> Widths
         ensures { result ≡ widths_of self kind }
     {
@@ -271,6 +272,7 @@ fn trap_of(number: u8) -> TrapKind
 }
 
 // The kernel's event of that kind, 0 to 6, with those fields.
+#[tactic(auto, unfolding(crate::specs::Form::event_of))]
 pub fn kernel_event(kind: usize, v: Fields) -> Event
     requires { kind ≤ 6 }
     ensures { result ≡ event_of kind v }
@@ -288,6 +290,7 @@ pub fn kernel_event(kind: usize, v: Fields) -> Event
 }
 
 // The application's event of that kind, 7 to 13, with those fields.
+#[tactic(auto, unfolding(crate::specs::Form::event_of))]
 pub fn application_event(kind: usize, v: Fields) -> Event
     requires { (7 ≤ kind) × (kind ≤ 13) }
     ensures { result ≡ event_of kind v }
