@@ -13,6 +13,7 @@ ghost use Rattle.core_refuse_event.specs.Stages.{shape_checks, by_shape, ShapeOf
 use rules::{Answer, Event, Setup, Span, TrapKind, both};
 
 // All of three tests hold.
+#[tactic(auto, unfolding(rules::specs::Bytes::all_of))]
 fn all_three(a: bool, b: bool, c: bool) -> bool
     ensures { result ≡ all_of (a ∷ b ∷ c ∷ []) }
 {
@@ -27,6 +28,7 @@ fn below(number: u8, size: usize) -> bool
 }
 
 // The numbers that the event names are within the setup.
+#[tactic(auto, unfolding(rules::specs::Events::numbers_in), using(crate::proofs::Within::below))]
 fn numbers_in(setup: Setup, event: Event) -> bool
     ensures { result ≡ numbers_in setup event }
 {
@@ -53,6 +55,7 @@ fn numbers_in(setup: Setup, event: Event) -> bool
 }
 
 // An interrupt has no mask.
+#[tactic(auto, unfolding(rules::specs::Events::mask_fits))]
 fn mask_fits(kind: TrapKind, mask: u8) -> bool
     ensures { result ≡ mask_fits kind mask }
 {
@@ -63,6 +66,7 @@ fn mask_fits(kind: TrapKind, mask: u8) -> bool
 }
 
 // A span is of at least one byte and ends within the page. The sum of its numbers may be beyond a usize, and is not made.
+#[tactic(auto, unfolding(rules::specs::Events::span_fits, rules::specs::Bytes::all_of), using(crate::proofs::Spans::sum_fits))]
 fn span_fits(setup: Setup, x: Span) -> bool
     ensures { result ≡ span_fits setup x }
 {
@@ -85,6 +89,7 @@ pub struct Shape {
     pub answer: usize,
 }
 
+#[tactic(auto, unfolding(crate::specs::Stages::shape_with))]
 fn shape_with(mask: bool, span: bool, answer: usize) -> Shape
     ensures { result ≡ shape_with mask span answer }
 {
@@ -107,6 +112,7 @@ fn shape_of(setup: Setup, event: Event) -> Shape
 }
 
 // The order of these checks.
+#[tactic(auto, unfolding(crate::specs::Stages::shape_checks, rules::specs::Answers::check, rules::specs::Answers::first_of))]
 fn shaped(mask: bool, numbers: bool, lengths: bool, short: bool) -> u8
     ensures { result ≡ first_of (shape_checks mask numbers lengths short) }
 {
@@ -126,6 +132,7 @@ fn shaped(mask: bool, numbers: bool, lengths: bool, short: bool) -> u8
 }
 
 // The refusal by these checks, or 0. The event comes with data of length `new` and an answer buffer of length `room`.
+#[tactic(auto, unfolding(crate::specs::Stages::by_shape))]
 pub fn by_shape(setup: Setup, event: Event, new: usize, room: usize) -> u8
     ensures { (t : Tables) → result ≡ first_of (by_shape setup event (row setup t event) new room) }
 {

@@ -9,6 +9,7 @@ ghost use Rattle.core_seal_bytes.specs.Moved.{SealedBytes, UnveiledBytes};
 use rules::Wear;
 
 // The number of the signature that a page is sealed with.
+#[tactic(auto, unfolding(rules::specs::Sealing::sealed_with))]
 pub fn sealed_with(used: u16, wear: Wear) -> u16
     ensures { result ≡ sealed_with used wear }
 {
@@ -19,6 +20,7 @@ pub fn sealed_with(used: u16, wear: Wear) -> u16
 }
 
 // The count of used signatures after it.
+#[tactic(auto, unfolding(rules::specs::Sealing::sealed_with, rules::specs::Sealing::takes))]
 pub fn used_after(used: u16, wear: Wear) -> u16
     requires { sealed_with used wear < max_signatures }
     ensures { result ≡ used + takes wear }
