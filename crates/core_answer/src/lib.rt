@@ -3,7 +3,7 @@
 
 ghost use Rattle.std.specs.Prelude.{◌≡◌, length};
 ghost use Rattle.core_tables.specs.Image.{image_words};
-ghost use Rattle.core_answer.specs.Contracts.{Tells, Refuses};
+ghost use Rattle.core_answer.specs.Promises.{Tells, Refuses};
 
 use rules::Answer;
 

@@ -5,7 +5,7 @@ use Rattle.rules.specs.Bytes.{zeros}
 use Rattle.rules.specs.declared.Setup.{Setup}
 use Rattle.rules.specs.declared.Answer.{Answer}
 use Rattle.core_answer.specs.Handed.{Left, left}
-use Rattle.core_answer.specs.Contracts.{Slice}
+use Rattle.core_tables.specs.Lent.{Slice, MutSlice}
 use Rattle.core_accept.specs.Acceptable.{startable_in}
 
 -- taken or not
@@ -19,7 +19,7 @@ started s tables saved frames store supply =
     started_by (startable_in s tables saved frames store supply) tables saved frames store
 
 -- the contract of a start, over its parameters
-abbrev pub Starts : Setup → Slice → Slice → Slice → Slice → Slice → Answer → Type 0
+abbrev pub Starts : Setup → MutSlice → MutSlice → MutSlice → MutSlice → Slice → Answer → Type 0
 Starts s tables saved frames store supply r =
     left r tables.exit.now saved.exit.now frames.exit.now store.exit.now []
     ≡ started s tables.entry.now saved.entry.now frames.entry.now store.entry.now supply.entry.now

@@ -3,7 +3,8 @@
 #![tactic(auto)]
 
 ghost use Rattle.std.specs.Prelude.{◌≡◌};
-ghost use Rattle.core_answer.specs.Contracts.{Steps};
+ghost use Rattle.core_answer.specs.Handed.{handed, left};
+ghost use Rattle.core_answer.specs.Promises.{Steps};
 ghost use Rattle.core_look.specs.Look.{NumberOf, Shows};
 ghost use Rattle.core_entry.specs.Started.{Starts};
 
@@ -49,7 +50,8 @@ pub fn step(
     data: &[u8],
     answer: &mut [u8],
 ) -> Answer
-    ensures { Steps setup tables saved frames store supply event «data» answer result }
+    ensures { Steps (handed setup tables.old saved.old frames.old store.old supply.now event «data».now answer.old)
+        (left result tables.new saved.new frames.new store.new answer.new) }
 {
     if !core_accept::acceptable(setup, tables, saved, frames, store, supply) {
         return core_answer::refused(tables, Answer::NOT_ACCEPTABLE);

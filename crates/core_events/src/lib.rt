@@ -1,7 +1,8 @@
 // An event that is granted is done: each of document 01's fourteen by the function of its name.
 #![tactic(auto)]
 
-ghost use Rattle.core_answer.specs.Contracts.{Granted, Steps};
+ghost use Rattle.core_answer.specs.Handed.{handed, left};
+ghost use Rattle.core_answer.specs.Promises.{Granted, Steps};
 
 use core_events_application::contexts::{leave, spawn, trap};
 use core_events_application::pages::{cloak, read, uncloak, write};
@@ -20,8 +21,9 @@ pub fn perform(
     data: &[u8],
     out: &mut [u8],
 ) -> Answer
-    requires { Granted setup tables saved frames store supply event «data» out }
-    ensures { Steps setup tables saved frames store supply event «data» out result }
+    requires { Granted (handed setup tables.old saved.old frames.old store.old supply.now event «data».now out.old) }
+    ensures { Steps (handed setup tables.old saved.old frames.old store.old supply.now event «data».now out.old)
+        (left result tables.new saved.new frames.new store.new out.new) }
 {
     let x = setup;
     match event {

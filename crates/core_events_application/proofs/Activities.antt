@@ -24,7 +24,7 @@ use Rattle.rules.specs.declared.Answer.{Answer}
 use Rattle.core_tables.specs.Image.{image_words, tables_in, saved_in}
 use Rattle.core_tables.specs.Put.{Put, set_activity}
 use Rattle.core_answer.specs.Handed.{Handed, handed, left, refuses, stepped}
-use Rattle.core_answer.specs.Contracts.{Tells}
+use Rattle.core_answer.specs.Promises.{Tells}
 use Rattle.core_answer.proofs.Laws.{found, was_accepted, was_granted, granted_leaves}
 
 module _ (setup : Setup) (words saved frames store supply : List ℕ) (c : Ctc) (new buffer : List ℕ) where

@@ -1,5 +1,6 @@
 // Kinds 7, 8 and 13: what a context does to itself and to others of its domain. It spawns another, leaves, or traps into the kernel.
-ghost use Rattle.core_answer.specs.Contracts.{Granted, Steps};
+ghost use Rattle.core_answer.specs.Handed.{handed, left};
+ghost use Rattle.core_answer.specs.Promises.{Granted, Steps};
 
 use rules::{Activity, Answer, Ctc, Event, Setup, TrapKind};
 
@@ -16,8 +17,9 @@ pub fn spawn(
     data: &[u8],
     answer: &[u8],
 ) -> Answer
-    requires { Granted setup tables saved frames store supply (Event.Spawn c u) «data» answer }
-    ensures { Steps setup tables saved frames store supply (Event.Spawn c u) «data» answer result }
+    requires { Granted (handed setup tables.old saved.now frames.now store.now supply.now (Event.Spawn c u) «data».now answer.now) }
+    ensures { Steps (handed setup tables.old saved.now frames.now store.now supply.now (Event.Spawn c u) «data».now answer.now)
+        (left result tables.new saved.now frames.now store.now answer.now) }
 {
     let activity = core_tables::activity_at(tables, c.0 as usize);
     let d = activity.domain();
@@ -37,8 +39,9 @@ pub fn leave(
     data: &[u8],
     answer: &[u8],
 ) -> Answer
-    requires { Granted setup tables saved frames store supply (Event.Leave c) «data» answer }
-    ensures { Steps setup tables saved frames store supply (Event.Leave c) «data» answer result }
+    requires { Granted (handed setup tables.old saved.old frames.now store.now supply.now (Event.Leave c) «data».now answer.now) }
+    ensures { Steps (handed setup tables.old saved.old frames.now store.now supply.now (Event.Leave c) «data».now answer.now)
+        (left result tables.new saved.new frames.now store.now answer.now) }
 {
     let context = c.0 as usize;
     core_tables::put_activity(tables, context, Activity::Free);
@@ -60,8 +63,9 @@ pub fn trap(
     data: &[u8],
     answer: &mut [u8],
 ) -> Answer
-    requires { Granted setup tables saved frames store supply (Event.Trap c kind mask) «data» answer }
-    ensures { Steps setup tables saved frames store supply (Event.Trap c kind mask) «data» answer result }
+    requires { Granted (handed setup tables.old saved.old frames.now store.now supply.now (Event.Trap c kind mask) «data».now answer.old) }
+    ensures { Steps (handed setup tables.old saved.old frames.now store.now supply.now (Event.Trap c kind mask) «data».now answer.old)
+        (left result tables.new saved.new frames.now store.now answer.new) }
 {
     let context = c.0 as usize;
     let activity = core_tables::activity_at(tables, context);

@@ -2,7 +2,8 @@
 ghost use Rattle.std.specs.Prelude.{◌≡◌, ℕ, ◌<◌, length};
 ghost use Rattle.core_tables.specs.Image.{image_words, max_entries, tables_in};
 ghost use Rattle.core_tables.specs.Put.{Put};
-ghost use Rattle.core_answer.specs.Contracts.{Granted, Steps};
+ghost use Rattle.core_answer.specs.Handed.{handed, left};
+ghost use Rattle.core_answer.specs.Promises.{Granted, Steps};
 ghost use Rattle.core_events_application.specs.OwnPages.{Owned, own_of, Openable, Opened, written_tables};
 
 use core_seal::Work;
@@ -70,8 +71,9 @@ pub fn cloak(
     data: &[u8],
     answer: &[u8],
 ) -> Answer
-    requires { Granted setup tables saved frames store supply (Event.Cloak c v) «data» answer }
-    ensures { Steps setup tables saved frames store supply (Event.Cloak c v) «data» answer result }
+    requires { Granted (handed setup tables.old saved.now frames.old store.old supply.now (Event.Cloak c v) «data».now answer.now) }
+    ensures { Steps (handed setup tables.old saved.now frames.old store.old supply.now (Event.Cloak c v) «data».now answer.now)
+        (left result tables.new saved.now frames.new store.new answer.now) }
 {
     let own = own_page(setup, tables, c, v);
     let f = own.frame;
@@ -107,8 +109,9 @@ pub fn uncloak(
     data: &[u8],
     answer: &[u8],
 ) -> Answer
-    requires { Granted setup tables saved frames store supply (Event.Uncloak c v) «data» answer }
-    ensures { Steps setup tables saved frames store supply (Event.Uncloak c v) «data» answer result }
+    requires { Granted (handed setup tables.old saved.now frames.old store.old supply.now (Event.Uncloak c v) «data».now answer.now) }
+    ensures { Steps (handed setup tables.old saved.now frames.old store.old supply.now (Event.Uncloak c v) «data».now answer.now)
+        (left result tables.new saved.now frames.new store.new answer.now) }
 {
     let own = own_page(setup, tables, c, v);
     let number = own.number;
@@ -133,8 +136,9 @@ pub fn read(
     data: &[u8],
     answer: &mut [u8],
 ) -> Answer
-    requires { Granted setup tables saved frames store supply (Event.Read c v span) «data» answer }
-    ensures { Steps setup tables saved frames store supply (Event.Read c v span) «data» answer result }
+    requires { Granted (handed setup tables.old saved.now frames.old store.old supply.now (Event.Read c v span) «data».now answer.old) }
+    ensures { Steps (handed setup tables.old saved.now frames.old store.old supply.now (Event.Read c v span) «data».now answer.old)
+        (left result tables.new saved.now frames.new store.new answer.new) }
 {
     let own = own_page(setup, tables, c, v);
     let f = own.frame;
@@ -166,8 +170,9 @@ pub fn write(
     data: &[u8],
     answer: &[u8],
 ) -> Answer
-    requires { Granted setup tables saved frames store supply (Event.Write c v span) «data» answer }
-    ensures { Steps setup tables saved frames store supply (Event.Write c v span) «data» answer result }
+    requires { Granted (handed setup tables.old saved.now frames.old store.old supply.now (Event.Write c v span) «data».now answer.now) }
+    ensures { Steps (handed setup tables.old saved.now frames.old store.old supply.now (Event.Write c v span) «data».now answer.now)
+        (left result tables.new saved.now frames.new store.new answer.now) }
 {
     let own = own_page(setup, tables, c, v);
     let f = own.frame;

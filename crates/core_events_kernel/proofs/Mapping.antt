@@ -25,7 +25,7 @@ use Rattle.rules.specs.declared.Answer.{Answer}
 use Rattle.core_tables.specs.Image.{tables_in}
 use Rattle.core_tables.specs.Put.{Put, set_page}
 use Rattle.core_answer.specs.Handed.{Handed, handed, left, refuses, stepped}
-use Rattle.core_answer.specs.Contracts.{Tells}
+use Rattle.core_answer.specs.Promises.{Tells}
 use Rattle.core_answer.proofs.Laws.{found, was_accepted, was_granted, granted_leaves}
 
 -- page record n with another mapping

@@ -2,7 +2,8 @@
 // Each asks that the rules do not refuse the event, and leaves what the rules leave.
 #![tactic(auto)]
 
-ghost use Rattle.core_answer.specs.Contracts.{Granted, Steps};
+ghost use Rattle.core_answer.specs.Handed.{handed, left};
+ghost use Rattle.core_answer.specs.Promises.{Granted, Steps};
 
 use core_seal::Work;
 use rules::{Activity, Answer, Asid, Ctc, Event, Gppn, Gvpn, Life, Mapping, Setup, Span};
@@ -20,8 +21,9 @@ pub fn begin(
     data: &[u8],
     answer: &[u8],
 ) -> Answer
-    requires { Granted setup tables saved frames store supply (Event.Begin d c) «data» answer }
-    ensures { Steps setup tables saved frames store supply (Event.Begin d c) «data» answer result }
+    requires { Granted (handed setup tables.old saved.now frames.now store.now supply.now (Event.Begin d c) «data».now answer.now) }
+    ensures { Steps (handed setup tables.old saved.now frames.now store.now supply.now (Event.Begin d c) «data».now answer.now)
+        (left result tables.new saved.now frames.now store.now answer.now) }
 {
     core_tables::put_life(tables, d.0 as usize, Life::Live);
     core_tables::put_activity(tables, c.0 as usize, Activity::Running(d));
@@ -40,8 +42,9 @@ pub fn end(
     data: &[u8],
     answer: &[u8],
 ) -> Answer
-    requires { Granted setup tables saved frames store supply (Event.End d) «data» answer }
-    ensures { Steps setup tables saved frames store supply (Event.End d) «data» answer result }
+    requires { Granted (handed setup tables.old saved.old frames.old store.old supply.now (Event.End d) «data».now answer.now) }
+    ensures { Steps (handed setup tables.old saved.old frames.old store.old supply.now (Event.End d) «data».now answer.now)
+        (left result tables.new saved.new frames.new store.new answer.now) }
 {
     core_end::end(setup, tables, saved, frames, store, d);
     core_answer::told(tables, Answer::DONE, 0, 0) // what was private is zeroed and not sealed
@@ -61,8 +64,9 @@ pub fn map(
     data: &[u8],
     answer: &[u8],
 ) -> Answer
-    requires { Granted setup tables saved frames store supply (Event.Map d v f) «data» answer }
-    ensures { Steps setup tables saved frames store supply (Event.Map d v f) «data» answer result }
+    requires { Granted (handed setup tables.old saved.now frames.now store.now supply.now (Event.Map d v f) «data».now answer.now) }
+    ensures { Steps (handed setup tables.old saved.now frames.now store.now supply.now (Event.Map d v f) «data».now answer.now)
+        (left result tables.new saved.now frames.now store.now answer.now) }
 {
     let number = setup.page_number(d, v);
     core_tables::put_mapping(tables, number, Mapping::Mapped(f));
@@ -82,8 +86,9 @@ pub fn unmap(
     data: &[u8],
     answer: &[u8],
 ) -> Answer
-    requires { Granted setup tables saved frames store supply (Event.Unmap d v) «data» answer }
-    ensures { Steps setup tables saved frames store supply (Event.Unmap d v) «data» answer result }
+    requires { Granted (handed setup tables.old saved.now frames.now store.now supply.now (Event.Unmap d v) «data».now answer.now) }
+    ensures { Steps (handed setup tables.old saved.now frames.now store.now supply.now (Event.Unmap d v) «data».now answer.now)
+        (left result tables.new saved.now frames.now store.now answer.now) }
 {
     let number = setup.page_number(d, v);
     core_tables::put_mapping(tables, number, Mapping::Unmapped);
@@ -103,8 +108,9 @@ pub fn kernel_read(
     data: &[u8],
     answer: &mut [u8],
 ) -> Answer
-    requires { Granted setup tables saved frames store supply (Event.KernelRead f span) «data» answer }
-    ensures { Steps setup tables saved frames store supply (Event.KernelRead f span) «data» answer result }
+    requires { Granted (handed setup tables.old saved.now frames.old store.old supply.now (Event.KernelRead f span) «data».now answer.old) }
+    ensures { Steps (handed setup tables.old saved.now frames.old store.old supply.now (Event.KernelRead f span) «data».now answer.old)
+        (left result tables.new saved.now frames.new store.new answer.new) }
 {
     let work = Work {
         seals: 0,
@@ -128,8 +134,9 @@ pub fn kernel_write(
     data: &[u8],
     answer: &[u8],
 ) -> Answer
-    requires { Granted setup tables saved frames store supply (Event.KernelWrite f span) «data» answer }
-    ensures { Steps setup tables saved frames store supply (Event.KernelWrite f span) «data» answer result }
+    requires { Granted (handed setup tables.old saved.now frames.old store.old supply.now (Event.KernelWrite f span) «data».now answer.now) }
+    ensures { Steps (handed setup tables.old saved.now frames.old store.old supply.now (Event.KernelWrite f span) «data».now answer.now)
+        (left result tables.new saved.now frames.new store.new answer.now) }
 {
     let work = Work {
         seals: 0,
@@ -153,8 +160,9 @@ pub fn resume(
     data: &[u8],
     answer: &mut [u8],
 ) -> Answer
-    requires { Granted setup tables saved frames store supply (Event.Resume d c) «data» answer }
-    ensures { Steps setup tables saved frames store supply (Event.Resume d c) «data» answer result }
+    requires { Granted (handed setup tables.old saved.old frames.now store.now supply.now (Event.Resume d c) «data».now answer.old) }
+    ensures { Steps (handed setup tables.old saved.old frames.now store.now supply.now (Event.Resume d c) «data».now answer.old)
+        (left result tables.new saved.new frames.now store.now answer.new) }
 {
     let context = c.0 as usize;
     let activity = core_tables::activity_at(tables, context);

@@ -13,7 +13,7 @@ use Rattle.rules.specs.declared.Place.{Place}
 use Rattle.rules.specs.declared.Place.TheVariants.{Public, Clear, Sealed}
 use Rattle.core_tables.specs.Image.{tables_in, state_in}
 use Rattle.core_answer.specs.Handed.{readable}
-use Rattle.core_answer.specs.Contracts.{Slice}
+use Rattle.core_tables.specs.Lent.{Slice}
 
 unfoldable pub look_number : Setup → List ℕ → List ℕ → List ℕ → List ℕ → Asid → Gvpn → ℕ
 look_number s tables saved frames store d v =

@@ -8,7 +8,7 @@ ghost use Rattle.rules.specs.Records.{place_of};
 ghost use Rattle.rules.specs.Sealing.{sealed_first};
 ghost use Rattle.core_tables.specs.Image.{tables_in};
 ghost use Rattle.core_seal.specs.Asked.{Sealable, Unveilable, Bringable};
-ghost use Rattle.core_seal.specs.Contracts.{Seals, Unveils, SealsAndUnveils, BringsIn};
+ghost use Rattle.core_seal.specs.Promises.{Seals, Unveils, SealsAndUnveils, BringsIn};
 
 use core_seal_bytes::{seal_bytes, sealed_with, unveil_bytes, used_after};
 use rules::{Answer, Asid, Gppn, Gvpn, Life, Named, Place, Setup, Wear};

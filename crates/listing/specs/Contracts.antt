@@ -3,7 +3,7 @@
 use Rattle.std.specs.Prelude.{◌≡◌, ℕ, []}
 use Rattle.rules.specs.declared.Setup.{Setup}
 use Rattle.rules.specs.declared.Event.{Event}
-use Rattle.core_answer.specs.Contracts.{Slice}
+use Rattle.core_tables.specs.Lent.{Slice}
 use Rattle.listing.specs.Listing.{Point, point, event_listed, listed, start_point}
 use Rattle.listing.specs.Filling.{Fills, left, turns, filled}
 use Rattle.listing.specs.declared.Run.{Run}

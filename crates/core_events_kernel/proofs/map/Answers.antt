@@ -1,0 +1,22 @@
+-- `map` meets its contract: the page is one of the tables, and its mapping alone is another.
+use mathlib.Core.Path.{◌∙◌}
+use Rattle.core_answer.proofs.Laws.{found}
+use Rattle.core_events_kernel.proofs.Mapping.{map_numbered, map_steps}
+use Rattle.core_events_kernel.proofs.map.Goals as goal
+
+pub page_number-number-requires : goal.page_number-number-requires
+page_number-number-requires c =
+    map_numbered _ c.args.tables.now c.args.saved.now c.args.frames.now c.args.store.now
+    c.args.supply.now _ _ c.args.«data».now c.args.answer.now c.args.f c.requires
+
+pub put_mapping-requires : goal.put_mapping-requires
+put_mapping-requires c =
+    ((found _ c.requires).tables_long, c.page_number-number.ensures.listed)
+
+pub told-requires : goal.told-requires
+told-requires c =
+    c.put_mapping.auto.tables ∙ (found _ c.requires).tables_long
+
+pub returns : goal.returns
+returns c =
+    map_steps _ _ _ _ _ _ _ _ _ _ _ c.requires _ c.page_number-number.ensures c.put_mapping.ensures c.told.ensures
