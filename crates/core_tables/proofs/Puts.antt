@@ -6,7 +6,7 @@ use native.Mathlib.Omega.{arith}
 use lib.ListN.{length, get_or, set, length-set}
 use lib.Seq.{get_or-set_same, get_or-set_other, set-set}
 use Rattle.rules.specs.Sizes.{max_domains, max_contexts, max_frames}
-use Rattle.rules.specs.Records.{tables, public_page}
+use Rattle.rules.specs.Records.{public_page}
 use Rattle.rules.specs.declared.Tables.{Tables}
 use Rattle.rules.specs.declared.DomainRecord.{DomainRecord}
 use Rattle.rules.specs.declared.ContextRecord.{ContextRecord}

@@ -48,7 +48,7 @@ pub fn registers_at(saved: &[u64], n: usize, i: usize) -> Registers
 
 pub fn put_saved(saved: &mut [u64], n: usize, i: usize, words: &[u64])
     requires { (length saved.old ≡ 8 * n) × (n ≤ max_contexts) × (i < n) × (length words.now ≡ 8) }
-    ensures { saved_in n saved.new ≡ set (saved_in n saved.old) i (record { words = words.entry.now }) }
+    ensures { saved_in n saved.new ≡ set (saved_in n saved.old) i (record { words = words.now }) }
 {
     let at = 8 * i;
     let end = at + 8;
