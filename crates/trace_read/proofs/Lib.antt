@@ -1,5 +1,4 @@
 -- What reading rests on, for the theorems to cite.
 pub mod Headers
 pub mod Places
-mod Held
 pub mod OneAnswer

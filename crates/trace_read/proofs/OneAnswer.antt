@@ -40,7 +40,7 @@ unread_after_one κs a x y e f p q = p ∙ sym q
 pub place_after_one : OneAnswer 0 place_after_holds.Kinds.ps place_after_holds.Kinds.r place_after_holds.Reads.Learnt
 place_after_one κs a x y e f p q = p ∙ sym q
 
--- `Reader::new`, `left`, `next`, `advance` and `read_record`, which are proved by hand
+-- `Reader::new`, `left`, `next`, `advance` and `read_record`, by the promises that their contracts name
 pub new_one : (unread : Bor (List ℕ)) (place : ℕ) (r q : Reader) → Reads unread place r → Reads unread place q → r ≡ q
 new_one unread place r q p t = λ i. record { unread = (p.0 ∙ sym t.0) i; place = (p.1 ∙ sym t.1) i }
 

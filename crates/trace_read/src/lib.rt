@@ -85,6 +85,7 @@ pub fn read_sizes(trace: &[u8]) -> Header
 }
 
 // What the header says, where its signatures are whole too.
+#[tactic(auto, unfolding(crate::specs::Reading::header_at))]
 pub fn read_header(trace: &[u8]) -> Header
     ensures { result ≡ header_at trace.now }
 {
@@ -122,6 +123,7 @@ fn behind(bytes: &[u8], n: usize) -> &[u8]
 }
 
 // The part of a trace that is its supply; none of it where the header is refused.
+#[tactic(auto, using(crate::proofs::Headers::opened))]
 pub fn supply(trace: &[u8]) -> &[u8]
     ensures { result.now ≡ supply_in (header_at trace.now) trace.now }
 {
@@ -162,6 +164,7 @@ fn event_of(owner: Owner, kind: usize, v: Fields) -> Event
 }
 
 // Of a record whose head is start of n bytes: whole with its data, or cut short.
+#[tactic(auto, unfolding(crate::specs::Reading::data_at))]
 fn data_at(n: usize, place: usize, start: usize, event: Event) -> Found
     requires { (start ≤ n) × (place + n < 2 ^ 64) }
     ensures { result ≡ data_at n place start event }
