@@ -1,47 +1,46 @@
 // What a line of the output is made of.
-use libc::STDOUT_FILENO;
 use rules::Answer;
+use std::io;
 
 // Text as it is.
-pub fn text(bytes: &[u8]) {
-    io::write_all(STDOUT_FILENO, bytes);
+pub fn text(rt: &impl Print, bytes: &[u8]) -> io::Result<()> {
+    rt.write_all(bytes)
 }
 
 // A number after a space.
-pub fn number(n: u64) {
-    text(b" ");
-    io::print_decimal(STDOUT_FILENO, n);
+pub fn number(rt: &impl Print, n: u64) -> io::Result<()> {
+    print!(rt; " {n}")
 }
 
 // Whether words or bytes are as they were before the call.
-pub fn kept(same: bool) {
+pub fn kept(rt: &impl Print, same: bool) -> io::Result<()> {
     if same {
-        text(b" kept");
+        text(rt, b" kept")
     } else {
-        text(b" changed");
+        text(rt, b" changed")
     }
 }
 
 // Whether the words that a start was lent are all 0.
-pub fn fresh(zero: bool) {
+pub fn fresh(rt: &impl Print, zero: bool) -> io::Result<()> {
     if zero {
-        text(b" fresh");
+        text(rt, b" fresh")
     } else {
-        text(b" not fresh");
+        text(rt, b" not fresh")
     }
 }
 
 // What was called and the case's name, then the answer's number, seals, unveils and used.
-pub fn told(call: &[u8], name: &[u8], answer: Answer) {
-    text(call);
-    text(name);
-    text(b":");
-    number(answer.number as u64);
-    number(answer.seals as u64);
-    number(answer.unveils as u64);
-    number(answer.used as u64);
+pub fn told(rt: &impl Print, call: &[u8], name: &[u8], answer: Answer) -> io::Result<()> {
+    text(rt, call)?;
+    text(rt, name)?;
+    text(rt, b":")?;
+    number(rt, answer.number as u64)?;
+    number(rt, answer.seals as u64)?;
+    number(rt, answer.unveils as u64)?;
+    number(rt, answer.used as u64)
 }
 
-pub fn end() {
-    text(b"\n");
+pub fn end(rt: &impl Print) -> io::Result<()> {
+    text(rt, b"\n")
 }

@@ -14,10 +14,12 @@ mod parts;
 mod unsound;
 mod world;
 
-fn main() {
-    lent::all();
-    bounds::all();
-    lengths::all();
-    unsound::all();
-    looks::all();
+use std::io;
+
+fn main(rt: HostRuntime) -> io::Result<()> {
+    lent::all(&rt)?;
+    bounds::all(&rt)?;
+    lengths::all(&rt)?;
+    unsound::all(&rt)?;
+    looks::all(&rt)
 }

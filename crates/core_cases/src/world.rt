@@ -1,6 +1,7 @@
 // Document 01's small setup, a state that was reached in it by events, and one event tried on that state.
 use crate::calls;
 use rules::{Asid, Ctc, Event, Gppn, Gvpn, Setup, Span};
+use std::io;
 
 pub fn small() -> Setup {
     Setup {
@@ -95,32 +96,52 @@ pub fn base(tables: &mut [u16], saved: &mut [u64], frames: &mut [u8], store: &mu
 }
 
 // One event on the base, with room for any answer.
-pub fn step(name: &[u8], event: Event, data: &[u8]) {
-    step_as(b"step ", name, event, data);
+pub fn step(rt: &impl Print, name: &[u8], event: Event, data: &[u8]) -> io::Result<()> {
+    step_as(rt, b"step ", name, event, data)
 }
 
 // The same with no data.
-pub fn bare(name: &[u8], event: Event) {
-    step_as(b"step ", name, event, b"");
+pub fn bare(rt: &impl Print, name: &[u8], event: Event) -> io::Result<()> {
+    step_as(rt, b"step ", name, event, b"")
 }
 
 // The same, its line begun with other words.
-pub fn step_as(call: &[u8], name: &[u8], event: Event, data: &[u8]) {
-    on_base(call, name, event, data, calls::ROOM);
+pub fn step_as(
+    rt: &impl Print,
+    call: &[u8],
+    name: &[u8],
+    event: Event,
+    data: &[u8],
+) -> io::Result<()> {
+    on_base(rt, call, name, event, data, calls::ROOM)
 }
 
 // With room for that many bytes of answer.
-pub fn step_in(name: &[u8], event: Event, data: &[u8], room: usize) {
-    on_base(b"step ", name, event, data, room);
+pub fn step_in(
+    rt: &impl Print,
+    name: &[u8],
+    event: Event,
+    data: &[u8],
+    room: usize,
+) -> io::Result<()> {
+    on_base(rt, b"step ", name, event, data, room)
 }
 
-fn on_base(call: &[u8], name: &[u8], event: Event, data: &[u8], room: usize) {
+fn on_base(
+    rt: &impl Print,
+    call: &[u8],
+    name: &[u8],
+    event: Event,
+    data: &[u8],
+    room: usize,
+) -> io::Result<()> {
     let mut tables = [0u16; core_tables::WORDS];
     let mut saved = [0u64; 8];
     let mut frames = [0u8; 32];
     let mut store = [0u8; 32];
     base(&mut tables, &mut saved, &mut frames, &mut store);
     step_on(
+        rt,
         call,
         name,
         &mut tables,
@@ -130,11 +151,12 @@ fn on_base(call: &[u8], name: &[u8], event: Event, data: &[u8], room: usize) {
         event,
         data,
         room,
-    );
+    )
 }
 
 // One event on what is lent.
 pub fn step_on(
+    rt: &impl Print,
     call: &[u8],
     name: &[u8],
     tables: &mut [u16],
@@ -144,8 +166,9 @@ pub fn step_on(
     event: Event,
     data: &[u8],
     room: usize,
-) {
+) -> io::Result<()> {
     calls::step(
+        rt,
         call,
         name,
         small(),
@@ -157,5 +180,5 @@ pub fn step_on(
         event,
         data,
         room,
-    );
+    )
 }

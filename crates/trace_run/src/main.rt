@@ -2,46 +2,35 @@
 // read before anything is written. What the lines are is promised by listing; here they are read and written.
 #![tactic(auto)]
 
-ghost use Rattle.std.specs.Prelude.{◌≡◌, ◌≤◌, length};
+ghost use Rattle.std.specs.Prelude.{◌≡◌, ◌≤◌, length, IfOk};
 ghost use Rattle.listing.specs.Opening.{opening_at};
 ghost use Rattle.listing.specs.Listing.{answer_room};
 ghost use Rattle.listing.specs.Filling.{line_room};
 
-use libc::{STDIN_FILENO, STDOUT_FILENO};
 use rules::Setup;
+use std::io;
+use std::io::Read;
 use trace_read::Header;
 
-// What was read: how many bytes, unless reading failed.
-#[derive(Clone, Copy)]
-struct Input {
-    count: usize,
-    whole: bool,
-}
-
-// Fills buf from standard input, to its end or to that of the input. A read may give less than was asked for.
-fn read_all(buf: &mut [u8]) -> Input
-    ensures { result.count ≤ length buf.new }
+// Fills buf from the input, to its end or to that of the input, and returns how many bytes were read. A read may give less than was
+// asked for.
+fn read_all(input: &mut impl Read, buf: &mut [u8]) -> io::Result<usize>
+    ensures { IfOk result (λ n. n ≤ length buf.new) }
 {
     let mut count: usize = 0;
     while count < buf.len() {
-        let got = libc::read(STDIN_FILENO, &mut buf[count..]);
-        if got < 0 {
-            return Input {
-                count,
-                whole: false,
-            };
-        }
-        let more = io::count(got, &buf[count..]);
+        let more = input.read(&mut buf[count..])?;
         if more == 0 {
-            return Input { count, whole: true };
+            return Ok(count);
         }
         count += more;
     }
-    Input { count, whole: true }
+    Ok(count)
 }
 
 // Writes the lines from a place of the trace on, in large pieces, until the trace is at its end or the output is closed.
 fn write_lines(
+    rt: &impl Print,
     trace: &[u8],
     setup: Setup,
     place: usize,
@@ -51,18 +40,16 @@ fn write_lines(
     store: &mut [u8],
     answer: &mut [u8],
     out: &mut [u8],
-)
+) -> io::Result<()>
     requires { line_room (length answer.old) ≤ length out.old }
 {
     let mut run = listing::start(trace, setup, place, tables, saved, frames, store);
     while run.place < trace.len() {
         let filled = listing::fill(run, trace, tables, saved, frames, store, answer, out);
-        let count = filled.count;
-        if !io::write_all(STDOUT_FILENO, &out[..count]) {
-            return;
-        }
+        rt.write_all(&out[..filled.count])?;
         run = filled.run;
     }
+    Ok(())
 }
 
 // Words of saved registers for the most contexts that a setup has: eight for each.
@@ -73,8 +60,17 @@ const LIMIT: usize = 16384;
 
 const ANSWER: usize = 4096;
 
+// Room for many lines.
+const ROOM: usize = 65536;
+
 // The listing of a trace that trace-run takes: of the lent words and bytes as many as the setup asks for are handed on.
-fn list_records(trace: &[u8], setup: Setup, place: usize, out: &mut [u8])
+fn list_records(
+    rt: &impl Print,
+    trace: &[u8],
+    setup: Setup,
+    place: usize,
+    out: &mut [u8],
+) -> io::Result<()>
     requires { (opening_at trace.now ≡ Header.Sizes setup place) × (line_room answer_room ≤ length out.old) }
 {
     let mut tables = [0u16; core_tables::WORDS];
@@ -86,6 +82,7 @@ fn list_records(trace: &[u8], setup: Setup, place: usize, out: &mut [u8])
     let f = setup.frames * setup.size;
     let s = setup.domains * setup.pages * setup.size;
     write_lines(
+        rt,
         trace,
         setup,
         place,
@@ -95,27 +92,26 @@ fn list_records(trace: &[u8], setup: Setup, place: usize, out: &mut [u8])
         &mut store[..s],
         &mut answer,
         out,
-    );
+    )
 }
 
 // The listing of a trace.
-fn list(trace: &[u8]) {
-    let mut out = io::large_buffer();
+fn list(rt: &impl Print, trace: &[u8]) -> io::Result<()> {
+    let mut out = [0u8; ROOM];
     match listing::opening(trace) {
-        Header::Sizes(setup, place) => list_records(trace, setup, place, &mut out),
+        Header::Sizes(setup, place) => list_records(rt, trace, setup, place, &mut out),
         Header::Refused(number) => {
             let count = listing::refusal(number, &mut out);
-            io::write_all(STDOUT_FILENO, &out[..count]);
+            rt.write_all(&out[..count])
         }
     }
 }
 
-fn main() {
+fn main(rt: HostRuntime) {
     // one byte more than a trace may have, so that a longer one is seen to be too long
     let mut buf = [0u8; LIMIT + 1];
-    let input = read_all(&mut buf);
-    let count = input.count;
-    if input.whole {
-        list(&buf[..count]);
+    if let Ok(count) = read_all(&mut rt.stdin(), &mut buf) {
+        // where the output is closed early, no more lines are asked for
+        let _ = list(&rt, &buf[..count]);
     }
 }
