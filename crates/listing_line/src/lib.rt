@@ -26,6 +26,7 @@ fn pair(out: &mut [u8], at: usize, first: u8, second: u8) -> usize
 }
 
 // A decimal number, and a space. Most are one digit.
+#[tactic(auto, using(crate::proofs::Decimals::few))]
 fn number(out: &mut [u8], at: usize, n: u64) -> usize
     requires { at + 21 ≤ length out.old }
     ensures put { Put at (field_then (decimal n) []) out.old result out.new }
@@ -64,6 +65,7 @@ fn hex(out: &mut [u8], at: usize, bytes: &[u8]) -> usize
 }
 
 // The last field and the newline.
+#[tactic(auto, using(crate::proofs::Puts::length_hex))]
 fn last(out: &mut [u8], at: usize, shown: &[u8]) -> usize
     requires { at + 2 + 2 * length shown.now ≤ length out.old }
     ensures put { Put at (last_field shown.now ++ (newline ∷ [])) out.old result out.new }
