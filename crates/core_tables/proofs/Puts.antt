@@ -197,10 +197,12 @@ module _ (v : ℕ) (x : List ℕ) (long : length x ≡ image_words) where
         tables =
             rw (
               kept domain_in x y domains_at max_domains (λ k b. rest2 _ _ (λ k b e. omega arith) k b ∙ rest _ _ (λ k b e. omega arith) k b),
-              kept context_in x y contexts_at max_contexts (λ k b. rest2 _ _ (λ k b e. omega arith) k b ∙ rest _ _ (λ k b e. omega arith) k b),
+              kept context_in x y contexts_at max_contexts
+                  (λ k b. rest2 _ _ (λ k b e. omega arith) k b ∙ rest _ _ (λ k b e. omega arith) k b),
               page_place x y i w z r within elseh elses newh news code.back
                   (λ k b. rest2 _ _ (λ k b e. omega arith) k b ∙ rest _ _ (λ k b e. omega arith) k b),
-              kept (frame_in v) x y frames_at max_frames (λ k b. rest2 _ _ (λ k b e. omega arith) k b ∙ rest _ _ (λ k b e. omega arith) k b),
+              kept (frame_in v) x y frames_at max_frames
+                  (λ k b. rest2 _ _ (λ k b e. omega arith) k b ∙ rest _ _ (λ k b e. omega arith) k b),
               get_or-set_other x2 (sign_at + i) used_at z 0 (λ e. omega arith),
               get_or-set_other x (home_at + i) used_at w 0 (λ e. omega arith),
             );

@@ -65,10 +65,12 @@ pub home_still : (x y : List ℕ) → Same x y home_at max_entries → Same x y 
 home_still x y h s old i b = rw (h i b, s i b) (old i b)
 
 -- one page's mapping changed
-pub page_mapping : (x y : List ℕ) (k w : ℕ) (r : Mapping) → k < max_entries → Else x y mapped_at max_entries k → get_or y (mapped_at + k) 0 ≡ w
+pub page_mapping : (x y : List ℕ) (k w : ℕ) (r : Mapping) → k < max_entries → Else x y mapped_at max_entries k
+    → get_or y (mapped_at + k) 0 ≡ w
     → mapping_in w ≡ r → Same x y home_at max_entries → Same x y sign_at max_entries
     → table (page_at y) 0 max_entries
-    ≡ set (table (page_at x) 0 max_entries) k (record { mapping = r; place = (get_or (table (page_at x) 0 max_entries) k public_page).place })
+    ≡ set (table (page_at x) 0 max_entries) k
+        (record { mapping = r; place = (get_or (table (page_at x) 0 max_entries) k public_page).place })
 page_mapping x y k w r b m new back h s =
     table_set (page_at x) (page_at y) 0 max_entries k _ b
     (rw (zero-add, new, back, h k b, s k b, get_d_table (page_at x) 0 max_entries k public_page b, zero-add))
@@ -78,7 +80,8 @@ page_mapping x y k w r b m new back h s =
 pub page_place : (x y : List ℕ) (k w z : ℕ) (r : Place) → k < max_entries → Else x y home_at max_entries k → Else x y sign_at max_entries k
     → get_or y (home_at + k) 0 ≡ w → get_or y (sign_at + k) 0 ≡ z → place_in w z ≡ r → Same x y mapped_at max_entries
     → table (page_at y) 0 max_entries
-    ≡ set (table (page_at x) 0 max_entries) k (record { mapping = (get_or (table (page_at x) 0 max_entries) k public_page).mapping; place = r })
+    ≡ set (table (page_at x) 0 max_entries) k
+        (record { mapping = (get_or (table (page_at x) 0 max_entries) k public_page).mapping; place = r })
 page_place x y k w z r b h s newh news back m =
     table_set (page_at x) (page_at y) 0 max_entries k _ b
     (rw (zero-add, newh, news, back, m k b, get_d_table (page_at x) 0 max_entries k public_page b, zero-add))
