@@ -1,6 +1,4 @@
 -- The loop's invariant: what is gathered is 0 where, and only where, the words of each page passed are in range and its home is held's.
-use Rattle.std.proofs.Common.{◌≡◌}
-use Rattle.core_tables.specs.Image.{used_at, word_at}
 use Rattle.core_sound.specs.Told.{Tells, Each, Kept}
 use Rattle.core_sound.proofs.ways.pages_kept.Given as goal
 
