@@ -1,13 +1,12 @@
 -- Kinds 11 and 12, an application's read and write, where they are granted: what the code asks is given, and what the rules leave.
 use mathlib.Core.Path.{◌≡◌, refl, sym, ap, ◌∙◌}
-use mathlib.Core.Logic.{⊎_elim}
 use mathlib.Core.List.{List, [], ◌∷◌}
 use Prim.Native.Nat.{ℕ, ◌+◌, ◌*◌, ◌≤◌, ◌<◌}
 use native.Mathlib.Omega.{arith}
 use lib.ListN.{length, take, drop, get_or}
 use lib.Seq.{set-get_or}
 use lib.Dec.{T, leb→le}
-use borrow.Author.Tests.{eq-eqb, ne_eqb, eqb-false}
+use borrow.Author.Tests.{eq-eqb, ne_eqb}
 use Rattle.rules.specs.Bytes.{all_of, part, with_part, overlay}
 use Rattle.rules.specs.Sizes.{page_number, context_in, page_in}
 use Rattle.rules.specs.Records.{Machine, given, underway, public_page, place_of}
@@ -32,19 +31,18 @@ use Rattle.core_tables.specs.Image.{image_words, max_entries, tables_in, saved_i
 use Rattle.core_tables.specs.Put.{Put, set_page}
 use Rattle.core_seal.specs.Asked.{Bringable}
 use Rattle.core_seal.proofs.Granted.{bringable}
-use Rattle.core_seal.proofs.Steps.{NotClear}
 use Rattle.core_answer.specs.Handed.{Handed, handed, given_in, refuses, stepped, leaves, ends}
 use Rattle.core_answer.proofs.Laws.{found, was_accepted, was_granted, granted_leaves}
 use Rattle.core_events_application.specs.OwnPages.{Owned, own_of, written_tables}
 use Rattle.core_events_application.specs.declared.pages.Own.{Own}
-use Rattle.core_events_application.proofs.OwnPages.{outset, owned, domain_in_holds, own_number, frame_in_holds, frame_fits}
+use Rattle.core_events_application.proofs.OwnPages.{NotClear, outset, owned, domain_in_holds, own_number, frame_in_holds, frame_fits}
 
 -- a page that was written, by its place
 module _ (v : ℕ) (x : List ℕ) (n : ℕ) (p : Place) (at : p ≡ (get_or (tables_in v x).pages n public_page).place) where
   stays : (p : Place) → NotClear p → p ≡ written p
   unfolding written
   stays Public o = refl
-  stays (Clear h w) o = absurd (⊎_elim (eqb-false 1 0 refl) (eqb-false 1 2 refl) o)
+  stays (Clear h w) o = absurd (o h w refl)
   stays (Sealed k) o = refl
 
   pub dirty_none : NotClear p → Put v x x (written_tables n (tables_in v x))

@@ -1,11 +1,9 @@
 -- Kind 10, uncloak, where it is granted: what the code asks is given, and what the rules leave, by the place that the page had.
 use mathlib.Core.Path.{◌≡◌, refl, sym, ap, ◌∙◌}
-use mathlib.Core.Logic.{⊎_elim}
 use mathlib.Core.List.{List}
 use Prim.Native.Nat.{ℕ, ◌+◌, ◌*◌, ◌≤◌, ◌<◌}
 use native.Mathlib.Omega.{arith}
 use lib.ListN.{length, get_or}
-use borrow.Author.Tests.{eqb-false}
 use Rattle.rules.specs.Bytes.{with_part, zeros, overlay}
 use Rattle.rules.specs.Records.{Machine, underway, public_page, domain_of, place_of, on_tables, with_place, fill_slot}
 use Rattle.rules.specs.Sealing.{seal_all, done}
@@ -24,19 +22,18 @@ use Rattle.rules.specs.declared.Event.TheVariants.{Uncloak}
 use Rattle.core_tables.specs.Words.{PlaceFits, sign_word}
 use Rattle.core_tables.specs.Image.{image_words, max_entries, tables_in, saved_in}
 use Rattle.core_tables.specs.Put.{Put, set_page, set_names}
-use Rattle.core_seal.proofs.Steps.{NotClear}
 use Rattle.core_answer.specs.Handed.{Handed, handed, machine_in, refuses, stepped, ends}
 use Rattle.core_answer.proofs.Laws.{was_accepted, granted_leaves}
 use Rattle.core_events_application.specs.OwnPages.{Owned, own_of, Openable, Opened}
 use Rattle.core_events_application.specs.declared.pages.Own.{Own}
-use Rattle.core_events_application.proofs.OwnPages.{owned, domain_in_holds, own_number, slot_fits}
+use Rattle.core_events_application.proofs.OwnPages.{NotClear, owned, domain_in_holds, own_number, slot_fits}
 
 -- the frame in which a page is Clear, if it is
 module _ (s : Setup) (words frames : List ℕ) where
   stays : (p : Place) → NotClear p → (m : Machine) → m ≡ zero_if_clear s p m
   unfolding zero_if_clear
   stays Public o m = refl
-  stays (Clear h w) o m = absurd (⊎_elim (eqb-false 1 0 refl) (eqb-false 1 2 refl) o)
+  stays (Clear h w) o m = absurd (o h w refl)
   stays (Sealed k) o m = refl
 
   pub opened_none : (p : Place) → NotClear p → Opened s p words frames words frames

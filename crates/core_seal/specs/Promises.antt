@@ -32,7 +32,7 @@ Unveils s work tables frames store supply f d v k r =
     (during s work z tables.entry.now frames.entry.now store.entry.now))
 
 -- what is Clear in frame f is sealed, then the page d, v is brought in there
-abbrev pub SealsAndUnveils : Setup → Work → MutSlice → MutSlice → Slice → Slice → Gppn → Asid → Gvpn → Brought → Type 0
+abbrev pub SealsAndUnveils : Setup → Work → MutSlice → MutSlice → MutSlice → Slice → Gppn → Asid → Gvpn → Brought → Type 0
 SealsAndUnveils s work tables frames store supply f d v r =
     (z : List Registers)
     → Leaves s.pages tables.entry.now tables.exit.now
