@@ -1,15 +1,12 @@
 -- Bringing in, by the page's place before and after the seals: which frames are sealed first, and whether the page is then
 -- unveiled.
 use mathlib.Core.Path.{◌≡◌, refl, ap, ◌∙◌}
-use mathlib.Core.Logic.{◌≢◌, ⊎_elim}
+use mathlib.Core.Logic.{◌≢◌}
 use mathlib.Core.List.{List, [], ◌∷◌}
 use Prim.Native.Nat.{ℕ}
-use types.Run.{OneOf}
-use denote.Enum.Declared.{tag_of}
-use borrow.Author.Tests.{eqb-false, eq-eqb, ne_eqb}
+use borrow.Author.Tests.{eq-eqb, ne_eqb}
 use Rattle.rules.specs.Records.{Given, Machine, place_of}
 use Rattle.rules.specs.Sealing.{Effect, done, seal, seal_all, unveil, sealed_first, bring_in_at, bring_in}
-use Rattle.rules.specs.contracts.Place.{the_type}
 use Rattle.rules.specs.declared.Asid.{Asid}
 use Rattle.rules.specs.declared.Gvpn.{Gvpn}
 use Rattle.rules.specs.declared.Gppn.{Gppn}
@@ -22,7 +19,7 @@ use Rattle.core_seal.proofs.Steps.{NotClear}
 pub first_other : (f : Gppn) (p : Place) → NotClear p → sealed_first f p ≡ f ∷ []
 unfolding sealed_first
 first_other f Public o = refl
-first_other f (Clear h w) o = absurd (⊎_elim (eqb-false 1 0 refl) (eqb-false 1 2 refl) o)
+first_other f (Clear h w) o = absurd (o h w refl)
 first_other f (Sealed k) o = refl
 
 module _ (f h : Gppn) (w : Wear) {p : Place} (clear : p ≡ Clear h w) where
@@ -34,16 +31,16 @@ module _ (f h : Gppn) (w : Wear) {p : Place} (clear : p ≡ Clear h w) where
   unfolding sealed_first
   first_away e = rw (clear, ne_eqb h.0 f.0 e)
 
--- where `let Place::Sealed(..) = p else` leaves p: the first or the second of a place's cases
+-- where `let Place::Sealed(..) = p else` leaves p
 abbrev pub NotSealed : Place → Type 0
-NotSealed p = OneOf (0 ∷ 1 ∷ []) (tag_of the_type p)
+NotSealed p = (k : ℕ) → p ≡ Sealed k → ⊥
 
 module _ (g : Given) (f : Gppn) (d : Asid) (v : Gvpn) where
   open_at : (p : Place) (m : Machine) → NotSealed p → done m [] ≡ bring_in_at g f d v p m
   unfolding bring_in_at
   open_at Public m o = refl
   open_at (Clear h w) m o = refl
-  open_at (Sealed k) m o = absurd (⊎_elim (eqb-false 2 0 refl) (eqb-false 2 1 refl) o)
+  open_at (Sealed k) m o = absurd (o k refl)
 
   -- it is not Sealed, it is Clear, or it is Sealed, and is unveiled
   pub brought_open : {n m : Machine} → n ≡ m → NotSealed (place_of g.setup n.tables d v)

@@ -1,20 +1,15 @@
 -- What the steps of a seal and of an unveiling leave is what the rules say: each law takes what the calls of a function
 -- ensure, and gives the function's own equation.
 use mathlib.Core.Path.{◌≡◌, refl, sym, ap, ◌∙◌}
-use mathlib.Core.Logic.{⊎_elim}
 use mathlib.Core.Bool.{Bool, true, false, cond}
-use mathlib.Core.List.{List, [], ◌∷◌}
+use mathlib.Core.List.{List}
 use Prim.Native.Nat.{ℕ, ◌+◌}
 use lib.ListN.{get_or}
-use types.Run.{OneOf}
-use denote.Enum.Declared.{tag_of}
-use borrow.Author.Tests.{eqb-false}
 use Rattle.rules.specs.Bytes.{part, with_part, same_bytes}
 use Rattle.rules.specs.Sizes.{page_number}
 use Rattle.rules.specs.Records.{Given, Machine, given, public_page, place_of, names_of}
 use Rattle.rules.specs.Sealing.{sealed_with, takes, signature, sealed_tables, seal_page, seal_at, seal_named, seal, unveiled_tables}
 use Rattle.rules.specs.Sealing.{unveiled, unveil, done, failed}
-use Rattle.rules.specs.contracts.Place.{the_type}
 use Rattle.rules.specs.declared.Setup.{Setup}
 use Rattle.rules.specs.declared.Mapping.{Mapping}
 use Rattle.rules.specs.declared.Registers.{Registers}
@@ -48,15 +43,15 @@ module _ (g : Given) (f : Gppn) (m : Machine) where
   unfolding seal seal_named
   seal_named_holds d v e sealed = rw e sealed
 
--- where `let Place::Clear(..) = p else` leaves p: the first or the third of a place's cases
+-- where `let Place::Clear(..) = p else` leaves p
 abbrev pub NotClear : Place → Type 0
-NotClear p = OneOf (0 ∷ 2 ∷ []) (tag_of the_type p)
+NotClear p = (h : Gppn) (w : Wear) → p ≡ Clear h w → ⊥
 
 pub seal_none : (g : Given) (f : Gppn) (d : Asid) (v : Gvpn) (p : Place) (m : Machine) → NotClear p
     → m ≡ seal_at g f d v p m
 unfolding seal_at
 seal_none g f d v Public m o = refl
-seal_none g f d v (Clear h w) m o = absurd (⊎_elim (eqb-false 1 0 refl) (eqb-false 1 2 refl) o)
+seal_none g f d v (Clear h w) m o = absurd (o h w refl)
 seal_none g f d v (Sealed k) m o = refl
 
 module _ (s : Setup) (supply x frames store : List ℕ) (work : Work) (f : Gppn) (d : Asid) (v : Gvpn) (saved : List Registers) where

@@ -1,6 +1,6 @@
 -- The contracts of sealing, unveiling and bringing in, over a function's own parameters: whatever the saved registers, what is left is what
 -- the rule says, and of a canonical image a canonical one is left.
-use Rattle.std.specs.Prelude.{List, [], ◌∷◌, ℕ}
+use Rattle.std.specs.Prelude.{List, ℕ}
 use Rattle.rules.specs.Records.{given, place_of}
 use Rattle.rules.specs.Sealing.{seal, seal_all, unveil, sealed_first, bring_in}
 use Rattle.rules.specs.declared.Setup.{Setup}
