@@ -3,7 +3,7 @@ use Rattle.std.proofs.Common.{◌≡◌, ℕ, List, [], ◌∷◌, sym, refl, �
 use Rattle.rules.specs.Records.{Given}
 use Rattle.rules.specs.Runs.{Ask}
 use Rattle.core_answer.specs.Handed.{handed, Left, stepped}
-use Rattle.std.specs.Started.{started}
+use Rattle.core_entry.specs.Started.{started}
 use Rattle.theorem_code.specs.Calls.{Memory, MayStart, MayStep, MaySteps, CodeRun}
 use Rattle.theorem_code.specs.Told.{handed_on}
 

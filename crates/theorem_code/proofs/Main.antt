@@ -20,7 +20,7 @@ use Rattle.rules.specs.declared.Place.TheVariants.{Sealed}
 use Rattle.rules.specs.declared.Event.TheVariants.{Resume, Read, Write}
 use Rattle.core_tables.specs.Image.{state_in}
 use Rattle.core_answer.specs.Handed.{Left, left, leaves, refuses}
-use Rattle.std.specs.Started.{started}
+use Rattle.core_entry.specs.Started.{started}
 use Rattle.theorem_reached.specs.States.{reached, answered, CleanAgree}
 use Rattle.theorem_secrecy.specs.Secrets as rule-secrets
 use Rattle.theorem_secrecy.specs.TwoServices.{one, other}

@@ -4,7 +4,7 @@ use Rattle.rules.specs.Records.{Given}
 use Rattle.rules.specs.Answers.{start_refusal, start}
 use Rattle.rules.specs.Runs.{Ask, run}
 use Rattle.core_answer.specs.Handed.{Left, leaves}
-use Rattle.std.specs.Started.{started}
+use Rattle.core_entry.specs.Started.{started}
 use Rattle.theorem_reached.specs.States.{reached}
 use Rattle.theorem_freshness.specs.Past.{past}
 use Rattle.theorem_code.specs.Calls.{Memory, WordsRight, MayStep, CodeRun, point}

@@ -11,7 +11,7 @@ use Rattle.core_answer.specs.Handed.{Left, left, refuses}
 use Rattle.core_answer.proofs.Laws.{refuses_first, refused_leaves}
 use Rattle.core_accept.specs.Acceptable.{acceptable_in}
 use Rattle.core_accept.proofs.NotStarted.{not_started}
-use Rattle.std.specs.Started.{started}
+use Rattle.core_entry.specs.Started.{started}
 use Rattle.theorem_code.specs.Calls.{Memory, MayStart, MayStep, MaySteps, last_of, tables_left}
 use Rattle.theorem_code.specs.Told.{ten, handed_on}
 use Rattle.theorem_code.proofs.Calls.{start_left, step_words}

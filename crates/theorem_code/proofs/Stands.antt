@@ -18,7 +18,7 @@ use Rattle.core_answer.specs.Handed.{Left, readable, refuses, leaves}
 use Rattle.core_answer.proofs.Laws.{is_readable, found, not_refused, readable_leaves}
 use Rattle.core_accept.specs.Acceptable.{lent_right, startable_in}
 use Rattle.core_accept.proofs.OneImage.{image_readable, image_state}
-use Rattle.std.specs.Started.{started}
+use Rattle.core_entry.specs.Started.{started}
 use Rattle.theorem_reached.specs.States.{answered}
 use Rattle.theorem_reached.proofs.DoneOrRefused.{step_sound}
 use Rattle.theorem_reached.proofs.Start.{fresh_sound, start_state, step_refused}

@@ -12,10 +12,10 @@ use Rattle.rules.specs.declared.State.{State}
 use Rattle.rules.specs.declared.Tables.{Tables}
 use Rattle.core_tables.specs.Image.{image_words, tables_in, state_in}
 use Rattle.core_answer.specs.Handed.{Left, left, readable}
-use Rattle.std.proofs.start.Kinds as start
-use Rattle.std.proofs.start.Reads as start-reads
-use Rattle.std.proofs.step.Kinds as step
-use Rattle.std.proofs.step.Reads as step-reads
+use Rattle.core_entry.proofs.start.Kinds as start
+use Rattle.core_entry.proofs.start.Reads as start-reads
+use Rattle.core_entry.proofs.step.Kinds as step
+use Rattle.core_entry.proofs.step.Reads as step-reads
 
 -- what is lent to a run: the words of tables and saved registers, and the bytes of frames and store
 pub record Memory : Type 0 where
