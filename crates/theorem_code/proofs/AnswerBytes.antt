@@ -1,5 +1,6 @@
 -- The front of the answer buffer that is left holds the answer's bytes.
-use Rattle.std.proofs.Common.{◌≡◌, ℕ, ◌+◌, ◌*◌, ◌<◌, ◌≤◌, Bool, true, false, cond, eqb, ◌≢◌, List, [], length, take, drop, sym, refl, ap, ◌∙◌, true≢false, arith, leb→le, length-drop, length-take-le, ne_eqb, eqb-true}
+use Rattle.std.proofs.Common.{◌≡◌, ℕ, ◌+◌, ◌*◌, ◌<◌, ◌≤◌, Bool, true, false, cond, eqb, ◌≢◌, List, [], length, take, drop, sym, refl, ap}
+use Rattle.std.proofs.Common.{◌∙◌, true≢false, arith, leb→le, length-drop, length-take-le, ne_eqb, eqb-true}
 use borrow.Author.Tests.{eqb-false}
 use Rattle.rules.specs.Bytes.{same_bytes, overlay, words_in, bytes_of}
 use Rattle.rules.specs.Records.{Given, Machine, place_of, domain_of, with_life, on_tables, frame_bytes}

@@ -1,7 +1,7 @@
--- What holds of the code, `core_entry::start` and `core_entry::step`, for every setup, supply, lent words and bytes, and every list of events with
--- their data and answer buffers. A `CodeRun` is a start and then a call for each event, each with an answer, words and bytes left that the
--- function's own promise allows (specs/Calls.antt). `point r` is what its latest call left, `MayStep g (point r) a l` a further call that
--- leaves l; `tables_left s l` are the tables that the words left hold, `held s l` is all that the rules' machine has.
+-- What holds of the code, `core_entry::start` and `core_entry::step`, for every setup, supply, lent words and bytes, and every list of
+-- events with their data and answer buffers. A `CodeRun` is a start and then a call for each event, each with an answer, words and bytes
+-- left that the function's own promise allows (specs/Calls.antt). `point r` is what its latest call left, `MayStep g (point r) a l` a
+-- further call that leaves l; `tables_left s l` are the tables that the words left hold, `held s l` is all that the rules' machine has.
 use Rattle.std.proofs.Common.{◌≡◌, ℕ, ◌+◌, ◌<◌, ◌≤◌, true, not, ◌≢◌, List, [], map, length, get_or}
 use Rattle.rules.specs.Bytes.{overlay, number, bytes_of, zeros}
 use Rattle.rules.specs.Sizes.{max_contexts}

@@ -1,5 +1,6 @@
 -- What holds of the words and bytes at each point of a run of the code, and of a further call there: the laws of `theorem_reached`.
-use Rattle.std.proofs.Common.{◌≡◌, ℕ, ◌+◌, ◌*◌, ◌<◌, ◌≤◌, Bool, true, false, T, ltb, ◌≢◌, List, get_or, sym, refl, ap, ◌∙◌, subst, arith, lt-ltb, eq-eqb}
+use Rattle.std.proofs.Common.{◌≡◌, ℕ, ◌+◌, ◌*◌, ◌<◌, ◌≤◌, Bool, true, false, T, ltb, ◌≢◌, List, get_or, sym, refl, ap, ◌∙◌, subst, arith}
+use Rattle.std.proofs.Common.{lt-ltb, eq-eqb}
 use native.Mathlib.Decide.{dec_lt}
 use Rattle.rules.specs.Bytes.{same_bytes, zeros}
 use Rattle.rules.specs.Sizes.{max_domains, max_pages, max_contexts, page_number}
@@ -27,7 +28,8 @@ use Rattle.theorem_code.proofs.Points.{words_right, rules_start, run_stands, run
 
 -- fresh tables are sound with whatever words the saved registers of the setup's contexts are
 module _ (s : Setup) (y : List ℕ) (few : s.contexts ≤ max_contexts) where
-  saved_sound_holds : (i : ℕ) → Dec (i < s.contexts) → i < max_contexts → T (saved_sound s i (get_or (saved_in s.contexts y) i zero_registers))
+  saved_sound_holds : (i : ℕ) → Dec (i < s.contexts) → i < max_contexts
+      → T (saved_sound s i (get_or (saved_in s.contexts y) i zero_registers))
   unfolding saved_sound same_bytes zeros
   saved_sound_holds i (yes h) inside = rw (lt-ltb i s.contexts h) tt
   saved_sound_holds i (no h) inside = second_or (ltb i s.contexts) _ (rw (saved_past s.contexts i y (omega arith) inside) tt)
@@ -47,7 +49,8 @@ module _ (s : Setup) (y : List ℕ) (few : s.contexts ≤ max_contexts) where
             (
               e.1.1.1.0,
               (
-                all_of_holds (saved_sound s) zero_registers (saved_in s.contexts y) (λ i h. saved_sound_holds i (dec_lt i s.contexts) (rw long at h)),
+                all_of_holds (saved_sound s) zero_registers (saved_in s.contexts y)
+                (λ i h. saved_sound_holds i (dec_lt i s.contexts) (rw long at h)),
                 e.1.1.1.1.1,
               ),
             ),

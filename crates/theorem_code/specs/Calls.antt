@@ -1,5 +1,5 @@
--- A run of the code: a call of `core_entry::start`, then calls of `core_entry::step`, each handed the words and bytes that the call before left. Of
--- a call only its promise is used: `Post` is what the checker itself reads of the function's `ensures`.
+-- A run of the code: a call of `core_entry::start`, then calls of `core_entry::step`, each handed the words and bytes that the call
+-- before left. Of a call only its promise is used: `Post` is what the checker itself reads of the function's `ensures`.
 use Rattle.std.specs.Prelude.{◌≡◌, ℕ, ◌*◌, ◌≤◌, T, List, [], ◌∷◌, length, replicate}
 use contract.Lifetimes.{Lfts}
 use denote.Triple.Clauses.{AtExit}
@@ -40,8 +40,8 @@ pub record WordsRight (s : Setup) (lent : Memory) : Type 0 where
   pub saved : length lent.saved ≡ 8 * s.contexts
   pub contexts : s.contexts ≤ max_contexts
 
--- A call of `core_entry::start` with this setup and supply, lent this memory, may leave l: its promise allows the answer, words and bytes that
--- l is made of.
+-- A call of `core_entry::start` with this setup and supply, lent this memory, may leave l: its promise allows the answer, words and
+-- bytes that l is made of.
 pub record MayStart (g : Given) (lent : Memory) (l : Left) : Type 0 where
   pub lifetimes : Lfts 5
   pub handed : Dens lifetimes start.ps

@@ -9,7 +9,8 @@ use lib.ListN.{length, get_or}
 use lib.Dec.{T}
 use borrow.Author.Tests.{eqb-true, eqb-false}
 use Rattle.rules.specs.Bytes.{zeros, words_in}
-use Rattle.rules.specs.Records.{Given, Machine, free_context, zero_registers, activity_of, place_of, saved_of, domain_of, is_in, with_activity}
+use Rattle.rules.specs.Records.{Given, Machine, free_context, zero_registers, activity_of, place_of, saved_of, domain_of, is_in}
+use Rattle.rules.specs.Records.{with_activity}
 use Rattle.rules.specs.Records.{on_tables, with_life}
 use Rattle.rules.specs.Sealing.{Effect, done, failed, and_then, seal_all, unveiled_tables, unveiled, bring_in}
 use Rattle.rules.specs.Events.{row, numbers_in, own_frame, ended, store_span, cloaked, zero_if_clear, uncloaked, marked_dirty, turned, does}

@@ -31,7 +31,8 @@ use Rattle.theorem_reached.specs.States.{reached}
 use Rattle.theorem_reached.proofs.EveryRun.{run_accepted}
 use Rattle.theorem_reached.proofs.DoneOrRefused.{answered_0, step_counted, step_fate}
 use Rattle.theorem_reached.proofs.FramesAndSlots.{Within}
-use Rattle.theorem_reached.proofs.PageFates.{Quiet, is_same, is_sealed, is_unveiled, and_then_holds, Act, kept, put, Fate, is_kept, is_zeroed}
+use Rattle.theorem_reached.proofs.PageFates.{Quiet, is_same, is_sealed, is_unveiled, and_then_holds, Act, kept, put, Fate, is_kept}
+use Rattle.theorem_reached.proofs.PageFates.{is_zeroed}
 use Rattle.theorem_reached.proofs.PageFates.{is_dropped, is_put, same_number, quiet_public, is_public_holds, act_of}
 use Rattle.theorem_reached.proofs.OwnPages.{write_own}
 use Rattle.theorem_freshness.specs.Stale.{bears}

@@ -59,7 +59,8 @@ get_d_overlay at new old fits i = low (dec_le at i)
         rw (le-ltb i (at + length new) past) (get_d_sets_past old new at 0 fits i past)
 
     low : Dec (at ≤ i)
-        → get_or (lib.Seq.sets old at new) i 0 ≡ cond (all_of (leb at i ∷ ltb i (at + length new) ∷ [])) (get_or new (i - at) 0) (get_or old i 0)
+        → get_or (lib.Seq.sets old at new) i 0
+        ≡ cond (all_of (leb at i ∷ ltb i (at + length new) ∷ [])) (get_or new (i - at) 0) (get_or old i 0)
     low (yes h) = rw (le-leb at i h) (high h (dec_lt i (at + length new)))
     low (no h) =
         let before : i < at = omega arith in

@@ -12,7 +12,7 @@ use Rattle.rules.specs.Records.{Given, Machine, domain_of}
 use Rattle.rules.specs.Sound.{acceptable}
 use Rattle.rules.specs.Sealing.{Effect, done, failed, and_then, unveiled, bring_in, seal_all}
 use Rattle.rules.specs.Events.{Row, row, own_frame, does}
-use Rattle.rules.specs.Answers.{check, first_of, checks, refusal, refused, performed, perform, outset, step}
+use Rattle.rules.specs.Answers.{first_of, checks, refusal, refused, performed, perform, outset, step}
 use Rattle.rules.specs.declared.Setup.{Setup}
 use Rattle.rules.specs.declared.Tables.{Tables}
 use Rattle.rules.specs.declared.Asid.{Asid}

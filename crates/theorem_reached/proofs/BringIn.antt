@@ -11,7 +11,8 @@ use lib.Seq.{set-get_or}
 use lib.Dec.{lt→ltb}
 use Rattle.rules.specs.Bytes.{same_bytes, overlay}
 use Rattle.rules.specs.Sizes.{page_number, frame_in}
-use Rattle.rules.specs.Records.{Given, Machine, state_of, public_page, place_of, mapping_of, names_of, with_life, on_tables, frame_bytes, slot_bytes}
+use Rattle.rules.specs.Records.{Given, Machine, state_of, public_page, place_of, mapping_of, names_of, with_life, on_tables, frame_bytes}
+use Rattle.rules.specs.Records.{slot_bytes}
 use Rattle.rules.specs.Sound.{wear_sound, place_sound}
 use Rattle.rules.specs.Sealing.{Effect, done, failed, signature, unveiled_tables, unveiled, unveil, bring_in_at, bring_in}
 use Rattle.rules.specs.Events.{store_span, written, marked_dirty}

@@ -9,7 +9,8 @@ use lib.Dec.{T}
 use borrow.Author.Tests.{eqb-true, eqb-false}
 use Rattle.rules.specs.Bytes.{zeros}
 use Rattle.rules.specs.Sizes.{page_number}
-use Rattle.rules.specs.Records.{Given, Machine, life_of, place_of, names_of, is_empty, is_public, with_place, on_tables, slot_bytes, fill_slot}
+use Rattle.rules.specs.Records.{Given, Machine, life_of, place_of, names_of, is_empty, is_public, with_place, on_tables, slot_bytes}
+use Rattle.rules.specs.Records.{fill_slot}
 use Rattle.rules.specs.Sound.{place_sound, names_sound, wear_sound}
 use Rattle.rules.specs.Events.{cloaked, zero_if_clear, uncloaked}
 use Rattle.rules.specs.declared.Setup.{Setup}

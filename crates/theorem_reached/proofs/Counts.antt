@@ -6,7 +6,7 @@ use Prim.Native.Nat.{ℕ, ◌+◌, ◌≤◌}
 use native.Mathlib.Omega.{arith}
 use lib.ListN.{length}
 use Rattle.rules.specs.Records.{Given, Machine, place_of, domain_of}
-use Rattle.rules.specs.Sealing.{Effect, done, failed, and_then, seal_page, seal, seal_all, unveiled_tables, unveiled, unveil, bring_in}
+use Rattle.rules.specs.Sealing.{Effect, done, failed, and_then, seal_page, seal, seal_all, unveiled_tables, unveiled, bring_in}
 use Rattle.rules.specs.Events.{row, numbers_in, own_frame, own_place, on_records, on_frame, acting, on_page, touching, ended_tables, ended}
 use Rattle.rules.specs.Events.{store_span, cloaked, zero_if_clear, uncloaked, marked_dirty, turned, does}
 use Rattle.rules.specs.declared.Setup.{Setup}

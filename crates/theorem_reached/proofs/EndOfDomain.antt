@@ -12,7 +12,8 @@ use lib.Dec.{T, eqb}
 use borrow.Author.Tests.{eq-eqb, ne_eqb}
 use Rattle.rules.specs.Bytes.{zeros, same_bytes}
 use Rattle.rules.specs.Sizes.{page_number}
-use Rattle.rules.specs.Records.{Given, Machine, state_of, empty_domain, free_context, public_page, open_frame, zero_registers, life_of, activity_of}
+use Rattle.rules.specs.Records.{Given, Machine, state_of, empty_domain, free_context, public_page, open_frame, zero_registers, life_of}
+use Rattle.rules.specs.Records.{activity_of}
 use Rattle.rules.specs.Records.{page_of, place_of, names_of, is_empty, is_in, is_free, names_in, names_none, frame_bytes, slot_bytes}
 use Rattle.rules.specs.Sound.{begun, activity_sound, owned_sound, names_sound}
 use Rattle.rules.specs.Events.{ended_tables, ended}

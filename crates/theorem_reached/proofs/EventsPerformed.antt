@@ -13,7 +13,8 @@ use Rattle.rules.specs.Sizes.{domain_in, context_in}
 use Rattle.rules.specs.Records.{Given, Machine, life_of, activity_of, place_of, domain_of, is_empty, is_kept_in, is_public}
 use Rattle.rules.specs.Sound.{begun, activity_sound, mapping_sound}
 use Rattle.rules.specs.Sealing.{done, seal, seal_all}
-use Rattle.rules.specs.Events.{row, numbers_in, running, own_place, own_frame, on_records, on_frame, acting, on_page, touching, ended, span_bytes}
+use Rattle.rules.specs.Events.{row, numbers_in, running, own_place, own_frame, on_records, on_frame, acting, on_page, touching, ended}
+use Rattle.rules.specs.Events.{span_bytes}
 use Rattle.rules.specs.Events.{does}
 use Rattle.rules.specs.Answers.{perform}
 use Rattle.rules.specs.Asked.{Agreed}

@@ -10,7 +10,8 @@ use lib.ListN.{length}
 use lib.Dec.{T, eqb_refl, lt→ltb}
 use Rattle.rules.specs.Bytes.{with_part}
 use Rattle.rules.specs.Sizes.{page_number, domain_in, page_in, frame_in}
-use Rattle.rules.specs.Records.{Given, Machine, life_of, place_of, names_of, is_clear_in, is_empty, with_names, with_place, frame_bytes, fill_frame}
+use Rattle.rules.specs.Records.{Given, Machine, life_of, place_of, names_of, is_clear_in, is_empty, with_names, with_place, frame_bytes}
+use Rattle.rules.specs.Records.{fill_frame}
 use Rattle.rules.specs.Sound.{wear_sound, place_sound, names_sound}
 use Rattle.rules.specs.Asked.{Agreed}
 use Rattle.rules.specs.declared.Setup.{Setup}

@@ -5,7 +5,8 @@ use mathlib.Core.List.{[], ◌∷◌}
 use mathlib.Core.Bool.{not}
 use Prim.Native.Nat.{ℕ, ◌<◌}
 use lib.Dec.{T}
-use Rattle.rules.specs.Records.{place_of, names_of, Given, Machine, life_of, activity_of, mapping_of, domain_of, domain_where, frame_where, is_empty}
+use Rattle.rules.specs.Records.{place_of, names_of, Given, Machine, life_of, activity_of, mapping_of, domain_of, domain_where, frame_where}
+use Rattle.rules.specs.Records.{is_empty}
 use Rattle.rules.specs.Records.{is_running, is_unmapped}
 use Rattle.rules.specs.Sealing.{seal}
 use Rattle.rules.specs.Events.{own_place, running, own_frame, own_mapped, row, numbers_in, acting, on_page, touching}

@@ -2,7 +2,7 @@
 -- its frame and its slot; or it is cloaked, made Public or written. What holds of a page in every reached state is shown by these cases.
 use mathlib.Core.Path.{◌≡◌, sym, ap, ◌∙◌, refl}
 use mathlib.Core.List.{List, [], ◌∷◌}
-use mathlib.Core.Bool.{Bool, cond, true, false, true≢false}
+use mathlib.Core.Bool.{Bool, cond, true, true≢false}
 use Prim.Native.Nat.{ℕ, ◌<◌, ◌≤◌}
 use native.Mathlib.Decide.{ℕ_discrete}
 use native.Mathlib.Omega.{arith}

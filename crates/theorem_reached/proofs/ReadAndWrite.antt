@@ -85,7 +85,8 @@ module _ (g : Given) (m : Machine) where
         record {
           accepted = stopped_accepted g q sealed_first_accepted f hf d v hd;
           fate =
-              λ e w he. is_kept (and_then_holds (sealed_first_quiet e w he) (is_same (stopped_stays g q sealed_first_accepted f hf d v hd e w)));
+              λ e w he.
+              is_kept (and_then_holds (sealed_first_quiet e w he) (is_same (stopped_stays g q sealed_first_accepted f hf d v hd e w)));
         }
 
     pub did_read : (act : Asid → Gvpn → Act) → ((e : Asid) (w : Gvpn) → act e w ≡ kept) → (bytes : Machine → List ℕ)

@@ -10,7 +10,8 @@ use native.Mathlib.Omega.{arith}
 use lib.ListN.{length, set, length-set}
 use lib.Seq.{get_or-set_other}
 use lib.Dec.{T, ltb→lt}
-use Rattle.rules.specs.Records.{Given, Machine, state_of, public_page, life_of, activity_of, page_of, place_of, mapping_of, names_of, is_empty}
+use Rattle.rules.specs.Records.{Given, Machine, state_of, public_page, life_of, activity_of, page_of, place_of, mapping_of, names_of}
+use Rattle.rules.specs.Records.{is_empty}
 use Rattle.rules.specs.Records.{is_unmapped, is_public, is_clear_in, names_none, with_page, with_mapping, with_place, with_names, with_used}
 use Rattle.rules.specs.Bytes.{all_of}
 use Rattle.rules.specs.Sizes.{page_number, domain_in, page_in, max_domains, max_pages}

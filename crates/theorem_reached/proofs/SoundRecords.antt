@@ -9,7 +9,8 @@ use native.Mathlib.Omega.{arith}
 use lib.ListN.{length, set, length-set}
 use lib.Seq.{get_or-set_other}
 use lib.Dec.{T, eqb_refl, ltb→lt, lt→ltb}
-use Rattle.rules.specs.Records.{zero_registers, life_of, activity_of, page_of, place_of, names_of, is_empty, is_clear_in, names_page, with_life}
+use Rattle.rules.specs.Records.{zero_registers, life_of, activity_of, page_of, place_of, names_of, is_empty, is_clear_in, names_page}
+use Rattle.rules.specs.Records.{with_life}
 use Rattle.rules.specs.Records.{with_activity}
 use Rattle.rules.specs.Sound.{begun, activity_sound, wear_sound, place_sound, untouched, owned_sound, names_sound}
 use Rattle.rules.specs.Asked.{Limited}

@@ -44,7 +44,8 @@ fresh_sound s =
       (
         le→leb 0 s.signatures (omega arith),
         (
-          all_of_holds (domain_sound s) empty_domain _ (λ i _. rw (get_d_fresh max_domains i empty_domain) (second_or (ltb i s.domains) true tt)),
+          all_of_holds (domain_sound s) empty_domain _
+              (λ i _. rw (get_d_fresh max_domains i empty_domain) (second_or (ltb i s.domains) true tt)),
           (
             all_of_holds (context_sound s fresh_tables) free_context _
                 (λ i _. rw (get_d_fresh max_contexts i free_context) (pick (ltb i s.contexts) true true tt tt)),
@@ -68,7 +69,8 @@ fresh_sound s =
 
 -- the start's tables are fresh, granted or not
 started : (g : Given) (frames store : List ℕ) (b : Bool)
-    → state_of (cond b (machine fresh_state (zeros (length frames)) (zeros (length store))) (machine fresh_state frames store)) ≡ fresh_state
+    → state_of (cond b (machine fresh_state (zeros (length frames)) (zeros (length store))) (machine fresh_state frames store))
+    ≡ fresh_state
 started g frames store true = refl
 started g frames store false = refl
 

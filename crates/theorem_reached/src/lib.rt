@@ -1,3 +1,2 @@
 // What holds in every state that a run reaches from a fresh start: see specs/ for the words and proofs/Main.antt for the theorems.
 #![tactic(auto)]
-

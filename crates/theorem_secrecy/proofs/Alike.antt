@@ -6,7 +6,8 @@ use mathlib.Core.Bool.{Bool, true, false, cond}
 use Prim.Native.Nat.{ℕ, ◌+◌, ◌≤◌, ◌<◌}
 use native.Mathlib.Decide.{ℕ_discrete}
 use lib.ListN.{length, get_or}
-use Rattle.rules.specs.Records.{place_of, Given, Machine, open_frame, names_of, names_in, with_names, with_place, on_tables, with_saved, frame_bytes}
+use Rattle.rules.specs.Records.{place_of, Given, Machine, open_frame, names_of, names_in, with_names, with_place, on_tables, with_saved}
+use Rattle.rules.specs.Records.{frame_bytes}
 use Rattle.rules.specs.Records.{fill_frame, fill_slot}
 use Rattle.rules.specs.Bytes.{zeros}
 use Rattle.rules.specs.Sealing.{needed, signature, sealed_with, takes, sealed_tables, seal_page, seal, seal_all}

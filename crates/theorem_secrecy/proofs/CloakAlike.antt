@@ -6,7 +6,8 @@ use Prim.Native.Nat.{ℕ, ◌<◌}
 use native.Mathlib.Decide.{ℕ_discrete}
 use lib.Dec.{T}
 use Rattle.rules.specs.Bytes.{zeros}
-use Rattle.rules.specs.Records.{Given, Machine, life_of, place_of, names_of, is_empty, with_activity, with_place, on_tables, fill_slot, frame_bytes}
+use Rattle.rules.specs.Records.{Given, Machine, life_of, place_of, names_of, is_empty, with_activity, with_place, on_tables, fill_slot}
+use Rattle.rules.specs.Records.{frame_bytes}
 use Rattle.rules.specs.Records.{with_names}
 use Rattle.rules.specs.Events.{cloaked, zero_if_clear, uncloaked, turned}
 use Rattle.rules.specs.declared.Setup.{Setup}
@@ -85,7 +86,8 @@ module _ (g : Given) (m n : Machine) (gm : Accepted g m) (gn : Accepted g n) (a 
   unfolding uncloaked_at zero_if_clear
   uncloaked_alike d v hd =
       let p = place_of s t d v in
-      rw (uncloaked_at_holds s d v p m refl, uncloaked_at_holds s d v p n (sym (ap (λ (u : Tables). place_of s u d v) a.tables))) (at p refl)
+      rw (uncloaked_at_holds s d v p m refl, uncloaked_at_holds s d v p n (sym (ap (λ (u : Tables). place_of s u d v) a.tables)))
+      (at p refl)
     where
       slots : Alike s (on_tables (with_place s d v Public) (fill_slot s d v (zeros s.size) m))
           (on_tables (with_place s d v Public) (fill_slot s d v (zeros s.size) n))

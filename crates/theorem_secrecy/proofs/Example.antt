@@ -52,7 +52,7 @@ same_data s t (Write c v p) x = λ _. refl
 same_data s t (Trap c k mask) x = λ i _ _. refl
 
 same_ask : (s : Setup) (t : Tables) (a : Ask) → DifferInSecrets s t a a
-same_ask s t a = record { event = refl; data_length_holds = refl; room = refl; secrets = same_data s t a.event a.new }
+same_ask s t a = record { event = refl; data_length = refl; room = refl; secrets = same_data s t a.event a.new }
 
 -- of the call's registers the first and the last may be seen, and are equal
 abbrev secret_registers : List ℕ
@@ -78,13 +78,13 @@ differ_in_secrets = (
     (
       same_ask small _ _,
       (
-        record { event = refl; data_length_holds = refl; room = refl; secrets = λ shared. absurd (true≢false (sym shared)) },
+        record { event = refl; data_length = refl; room = refl; secrets = λ shared. absurd (true≢false (sym shared)) },
         (
           same_ask small _ _,
           (
             same_ask small _ _,
             (
-              record { event = refl; data_length_holds = refl; room = refl; secrets = shown_equal },
+              record { event = refl; data_length = refl; room = refl; secrets = shown_equal },
               (
                 same_ask small _ _,
                 tt,

@@ -150,7 +150,8 @@ module _ (g : Given) (m n : Machine) (gm : Accepted g m) (gn : Accepted g n) (a 
       → SameEffect s false (and_then (bring_in g f d v q) (λ o. done (marked_dirty s d v (store_span s f p x o)) []))
       (and_then (bring_in g f d v r) (λ o. done (marked_dirty s d v (store_span s f p y o)) []))
   write_alike p x y same =
-      touch_alike false (λ o. done (marked_dirty s d v (store_span s f p x o)) []) (λ o. done (marked_dirty s d v (store_span s f p y o)) [])
+      touch_alike false (λ o. done (marked_dirty s d v (store_span s f p x o)) [])
+      (λ o. done (marked_dirty s d v (store_span s f p y o)) [])
       (λ place none.
       both_done s false _ _ [] []
       (marked_alike s _ _ (span_alike g q r q_accepted r_accepted q_alike f hf p x y (λ _. same (sym public_as ∙ ap is_public place))) d v)

@@ -136,7 +136,7 @@ runs_alike g (x ∷ xs) (y ∷ ys) m n gm gn a h =
     let d = h.0 in
     let k : AlikeAfter g.setup m.tables x.event (answered g m x) (answered g n y) =
     subst (λ (e : Event). AlikeAfter g.setup m.tables x.event (answered g m x) (step g e y.new y.buffer n)) d.event
-    (step_alike g x.event x.new y.new x.buffer y.buffer m n gm gn a d.data_length_holds d.room d.secrets) in (
+    (step_alike g x.event x.new y.new x.buffer y.buffer m n gm gn a d.data_length d.room d.secrets) in (
       point_alike g m n gm gn a,
       (told_same g.setup m.tables x.event (answered g m x) (answered g n y) k.answer
           ∙ ap₂ (λ (t : Tables) (e : Event). told g.setup t e (answered g n y)) a.tables d.event),

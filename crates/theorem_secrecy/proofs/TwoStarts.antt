@@ -34,13 +34,15 @@ start_zero g frames store ok =
     ∙ ap₂ (λ (x y : ℕ). machine fresh_state (zeros x) (zeros y)) (sym (length_zeros (length frames)) ∙ accepted.looks.frames)
     (sym (length_zeros (length store)) ∙ accepted.looks.store)
 
-pub starts_alike : (g : Given) (frames frames' store store' : List ℕ) → start_refusal g frames store ≡ 0 → start_refusal g frames' store' ≡ 0
+pub starts_alike : (g : Given) (frames frames' store store' : List ℕ) → start_refusal g frames store ≡ 0
+    → start_refusal g frames' store' ≡ 0
     → Alike g.setup (start g frames store) (start g frames' store')
 starts_alike g frames frames' store store' ok ok' =
     rw (start_zero g frames store ok, start_zero g frames' store' ok') (alike_self g.setup _)
 
 -- so runs from them are
-pub started_runs : (g : Given) (frames frames' store store' : List ℕ) → start_refusal g frames store ≡ 0 → start_refusal g frames' store' ≡ 0
+pub started_runs : (g : Given) (frames frames' store store' : List ℕ) → start_refusal g frames store ≡ 0
+    → start_refusal g frames' store' ≡ 0
     → (asks others : List Ask) → DifferOnlyInSecrets g (start g frames store) asks others
     → SameRuns g (start g frames store) (start g frames' store') asks others
 started_runs g frames frames' store store' ok ok' asks others secrets =

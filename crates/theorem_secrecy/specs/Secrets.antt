@@ -49,7 +49,7 @@ SameButSecrets s t (Trap c k mask) x y = (i : ℕ) → i < 8 → may_be_seen k m
 -- two events with their data and answer buffers, asked of a machine with tables t
 pub record DifferInSecrets (s : Setup) (t : Tables) (a b : Ask) : Type 0 where
   pub event : a.event ≡ b.event
-  pub data_length_holds : length a.new ≡ length b.new
+  pub data_length : length a.new ≡ length b.new
   pub room : length a.buffer ≡ length b.buffer
   pub secrets : SameButSecrets s t a.event a.new b.new
 
