@@ -1,6 +1,6 @@
 #!/usr/bin/env python3
 # Gives this repository's own definitions and lemmas today's spelling: words in snake case, primes as an apostrophe. Run once, at the top
-, right after the kit's port.py; it says which names it turned. Names of functions, types, modules and of the library stay.
+# of a checkout, right after the kit's port.py; it says which names it turned. Names of functions, types, modules and of the library stay.
 import collections
 import glob
 import os
