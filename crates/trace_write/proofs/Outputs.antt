@@ -1,11 +1,11 @@
 -- What writing leaves: the head's bytes and those behind it over the output's front, or the output as it was.
 use mathlib.Core.Path.{◌≡◌, sym, ap, ap₂, subst, subst₂, ◌∙◌}
-use mathlib.Core.List.{List, [], ◌++◌, append_assoc, append-nil}
-use Prim.Native.Nat.{ℕ, ◌+◌, ◌-◌, ◌≤◌, ◌<◌, ◌^◌}
-use native.Mathlib.Nat.{le_of_eq, le_trans, lt_of_lt_of_le, zero-add}
+use mathlib.Core.List.{List, ◌++◌, append_assoc}
+use Prim.Native.Nat.{ℕ, ◌+◌, ◌≤◌, ◌<◌, ◌^◌}
+use native.Mathlib.Nat.{le_trans, lt_of_lt_of_le, zero-add}
 use native.Mathlib.Omega.{arith}
-use lib.ListN.{length, take, drop, length-append, length-drop, drop_of_length-le}
-use lib.Seq.{take_at, drop_at, take_all, take-length, drop-drop}
+use lib.ListN.{length, take, drop, length-append}
+use lib.Seq.{take_at, drop_at, drop-drop}
 use borrow.Author.Tests.{ne_eqb}
 use Rattle.trace_bits.specs.Packing.{join}
 use Rattle.rules.specs.Bytes.{overlay, big_endian}
@@ -34,21 +34,18 @@ pub overlay_front : (new out : List ℕ) → length new ≤ length out → overl
 overlay_front new out h =
     overlay_is 0 new out (omega arith) ∙ ap (λ (x : ℕ). new ++ drop x out) (zero-add (length new))
 
--- a head is stored, and then the others behind it; stored is the output between the two
-pub put_over : (hd others out stored ys : List ℕ) (k : ℕ) → length hd ≡ k → k + length others ≤ length out
-    → stored ≡ hd ++ drop k out
-    → ys ≡ take (length others) others ++ drop (length others) (take (length stored - k) (drop k stored))
-    → take k stored ++ (ys ++ drop (length stored - k) (drop k stored)) ≡ overlay 0 (hd ++ others) out
-put_over hd others out stored ys k hl fits es ey =
+-- a head is stored, and then the others behind it; stored is the output between the two, mid the n bytes behind the head
+pub put_over : (hd others out stored mid : List ℕ) (k n : ℕ) → length hd ≡ k → k + length others ≤ length out
+    → stored ≡ hd ++ drop k out → mid ≡ others → n ≡ length others
+    → take k stored ++ (mid ++ drop n (drop k stored)) ≡ overlay 0 (hd ++ others) out
+put_over hd others out stored mid k n hl fits es em en =
     let front : take k stored ≡ hd = ap (take k) es ∙ take_at hd (drop k out) k hl in
     let rest : drop k stored ≡ drop k out = ap (drop k) es ∙ drop_at hd (drop k out) k hl in
-    let n : length (drop k stored) ≡ length stored - k = length-drop k stored in
-    let all : take (length stored - k) (drop k stored) ≡ drop k stored = take_all (length stored - k) (drop k stored) (le_of_eq n) in
-    let none : drop (length stored - k) (drop k stored) ≡ [] = drop_of_length-le (drop k stored) (le_of_eq n) in
-    let behind : ys ≡ others ++ drop (k + length others) out =
-    ey ∙ ap₂ (λ (x z : List ℕ). x ++ z) (take-length others) (ap (drop (length others)) (all ∙ rest) ∙ drop-drop (length others) k out) in
+    let behind : mid ++ drop n (drop k stored) ≡ others ++ drop (k + length others) out =
+    ap₂ (λ (x z : List ℕ). x ++ z) em
+    (ap₂ (λ (i : ℕ) (x : List ℕ). drop i x) en rest ∙ drop-drop (length others) k out) in
     let len : length (hd ++ others) ≡ k + length others = length-append hd others ∙ ap (λ (x : ℕ). x + length others) hl in
-    ap₂ (λ (x z : List ℕ). x ++ z) front (ap₂ (λ (x z : List ℕ). x ++ z) behind none ∙ append-nil (others ++ drop (k + length others) out))
+    ap₂ (λ (x z : List ℕ). x ++ z) front behind
     ∙ sym (append_assoc hd others (drop (k + length others) out))
     ∙ ap (λ (x : ℕ). (hd ++ others) ++ drop x out) (sym len)
     ∙ sym (overlay_front (hd ++ others) out (omega (arith, len)))

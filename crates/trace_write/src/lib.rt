@@ -32,8 +32,9 @@ fn put(k: usize, n: usize, others: &[u8], out: &mut [u8]) -> usize
     ensures out_after { out.new ≡ overlay 0 (big_endian k n ++ others.now) out.old }
 {
     numbers::store(out, k, n as u64);
-    bytes::copy(others, &mut out[k..]);
-    k + others.len()
+    let end = k + others.len();
+    out[k..end].copy_from_slice(others);
+    end
 }
 
 // The number that a header's sizes spell.
