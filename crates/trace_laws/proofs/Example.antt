@@ -11,7 +11,7 @@ use Rattle.rules.specs.declared.Event.TheVariants.{Begin, KernelRead, Trap}
 use Rattle.rules.specs.declared.TrapKind.TheVariants.{Interrupt}
 use Rattle.trace_form.specs.Form.{first}
 use Rattle.trace_read.specs.Reading.{number_of, header_number, header_at, read_at}
-use Rattle.trace_write.specs.Writing.{done, written, write_header, write_record}
+use Rattle.trace_write.specs.Writing.{done, write_header, write_record}
 use Rattle.trace_laws.specs.Traces.{read_trace, write_trace}
 use Rattle.trace_laws.specs.Traces.Reading.{ended}
 use Rattle.trace_laws.proofs.Computing.{trace_computing}

@@ -166,8 +166,8 @@ module _ (f : Form) (right : Right f) where
   pub all_back : (is : List Item) (n p : ℕ) → AllFit f is → length (items_bytes f is) ≤ n → p + length (items_bytes f is) < 2 ^ 64
       → read_records f n (items_bytes f is) p ≡ all is
   unfolding items_bytes read_records
-  all_back [] zero p w h near = ap (read_on _ [] p) (sym (read_end f [] p near refl))
-  all_back [] (suc n) p w h near = ap (read_on _ [] p) (sym (read_end f [] p near refl))
+  all_back [] zero p w h near = ap (read_on (λ u q. refused 0) [] p) (sym (read_end f [] p near refl))
+  all_back [] (suc n) p w h near = ap (read_on (read_records f n) [] p) (sym (read_end f [] p near refl))
   all_back (i ∷ is) zero p (fit_more fit w) h near =
       absurd (let z : ⊥ = omega (arith, length_items i is fit, (laid f (kind_of i.event) right).some) in z)
   all_back (i ∷ is) (suc n) p (fit_more fit w) h near =
