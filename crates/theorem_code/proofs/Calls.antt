@@ -1,5 +1,5 @@
 -- What a call may leave is what its promise fixes, and there is a run for every list of events.
-use Rattle.std.proofs.Common.{◌≡◌, ℕ, List, [], ◌∷◌, sym, refl, ◌∙◌, Bor}
+use Rattle.std.proofs.Common.{◌≡◌, ℕ, List, [], ◌∷◌, sym, refl, ◌∙◌, Bor, MutBor}
 use Rattle.rules.specs.Records.{Given}
 use Rattle.rules.specs.Runs.{Ask}
 use Rattle.core_answer.specs.Handed.{handed, Left, stepped}
@@ -31,6 +31,9 @@ module _ (g : Given) where
 abbrev lent_as : List ℕ → Bor (List ℕ)
 lent_as list = record { ref_ptr = (0, 0); now = list }
 
+abbrev written_as : List ℕ → MutBor (List ℕ)
+written_as list = record { ref_ptr = (0, 0); ghost_name = 0; now = list }
+
 module _ (g : Given) where
   may_start : (lent : Memory) → MayStart g lent (started_over g lent)
   unfolding started
@@ -41,12 +44,12 @@ module _ (g : Given) where
         lifetimes = ([], ([], ([], ([], ([], tt)))));
         handed = (
           g.setup,
-          (lent_as lent.tables, (lent_as lent.saved, (lent_as lent.frames, (lent_as lent.store, (supply, tt))))),
+          (written_as lent.tables, (written_as lent.saved, (written_as lent.frames, (written_as lent.store, (supply, tt))))),
         );
         result = l.answer;
         at_exit = (
           g.setup,
-          (lent_as l.tables, (lent_as l.saved, (lent_as l.frames, (lent_as l.store, (supply, tt))))),
+          (written_as l.tables, (written_as l.saved, (written_as l.frames, (written_as l.store, (supply, tt))))),
         );
         promise = refl;
         setup = refl;
@@ -68,10 +71,10 @@ module _ (g : Given) where
         handed = (
           g.setup,
           (
-            lent_as p.tables,
+            written_as p.tables,
             (
-              lent_as p.saved,
-              (lent_as p.frames, (lent_as p.store, (supply, (a.event, (new, (lent_as a.buffer, tt)))))),
+              written_as p.saved,
+              (written_as p.frames, (written_as p.store, (supply, (a.event, (new, (written_as a.buffer, tt)))))),
             ),
           ),
         );
@@ -79,10 +82,10 @@ module _ (g : Given) where
         at_exit = (
           g.setup,
           (
-            lent_as l.tables,
+            written_as l.tables,
             (
-              lent_as l.saved,
-              (lent_as l.frames, (lent_as l.store, (supply, (a.event, (new, (lent_as l.buffer, tt)))))),
+              written_as l.saved,
+              (written_as l.frames, (written_as l.store, (supply, (a.event, (new, (written_as l.buffer, tt)))))),
             ),
           ),
         );

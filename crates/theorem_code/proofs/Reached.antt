@@ -50,7 +50,7 @@ module _ (s : Setup) (y : List ℕ) (few : s.contexts ≤ max_contexts) where
               e.1.1.1.0,
               (
                 all_of_holds (saved_sound s) zero_registers (saved_in s.contexts y)
-                (λ i h. saved_sound_holds i (dec_lt i s.contexts) (rw long at h)),
+                    (λ i h. saved_sound_holds i (dec_lt i s.contexts) (rw long at h)),
                 e.1.1.1.1.1,
               ),
             ),
