@@ -2,12 +2,12 @@
 use mathlib.Core.Path.{◌≡◌, refl, sym, ap, ap₂, ◌∙◌}
 use mathlib.Core.List.{List, [], ◌∷◌, ◌++◌}
 use Prim.Native.Nat.{ℕ, zero, suc, ◌+◌, ◌*◌, ◌/◌, ◌%◌, ◌^◌, ◌<◌, zero-le}
-use native.Mathlib.Nat.{add-zero, add-suc, add_assoc, add-mul, mul_assoc, pow-suc, pow-succ', pow-le-pow_right, mod-lt, mod-eq_of_lt}
+use native.Mathlib.Nat.{add_assoc, add-mul, mul_assoc, pow-suc, pow-succ', pow-le-pow_right, mod-lt, mod-eq_of_lt}
 use native.Mathlib.Nat.{div-div-eq-div-mul, mul-add-div_right, mul-add-mod_self_right}
 use native.Mathlib.Omega.{arith}
 use lib.Arith.{digits_lt, digits_div, mod-mul}
 use lib.Dec.{lit<}
-use lib.ListN.{length, get_or, take, drop, length-append}
+use lib.ListN.{length, take, drop, length-append}
 use lib.Seq.{get_or-drop}
 use lib.Pow.{pow-add}
 use Rattle.rules.specs.Bytes.{Bytes, big_endian, number}
