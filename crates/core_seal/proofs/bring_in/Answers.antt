@@ -66,11 +66,15 @@ returns-then-home-f c =
 
 pub seal-sealed-requires : goal.seal-sealed-requires
 seal-sealed-requires c =
-    first_sealable _ _ _ _ _ _ _ _ _ _ _ (rw (away (goal.at.seal-sealed-requires c).Else-home-f) at c.requires) (home-inside (goal.at.seal-sealed-requires c).Else-home-f)
+    let e = (goal.at.seal-sealed-requires c).Else-home-f in
+    first_sealable _ _ _ _ _ _ _ _ _ _ _ (rw (away e) at c.requires)
+    (home-inside e)
 
 pub seal_and_unveil-requires-2 : goal.seal_and_unveil-requires-2
 seal_and_unveil-requires-2 c =
-    next_asked _ _ _ _ _ _ _ _ _ _ _ (rw (away (goal.at.seal_and_unveil-requires-2 c).Else-home-f) at c.requires) (home-inside (goal.at.seal_and_unveil-requires-2 c).Else-home-f) [] c.seal-sealed.result _
+    let e = (goal.at.seal_and_unveil-requires-2 c).Else-home-f in
+    next_asked _ _ _ _ _ _ _ _ _ _ _ (rw (away e) at c.requires)
+    (home-inside e) [] c.seal-sealed.result _
     c.seal-sealed.auto.tables (c.seal-sealed.ensures []).canonical
     (c.seal-sealed.ensures []).is
     refl

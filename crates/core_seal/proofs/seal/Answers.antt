@@ -63,54 +63,79 @@ returns-then-named-eq0 c =
 
 pub place_at-place-requires : goal.place_at-place-requires
 place_at-place-requires c =
-    (c.requires.lent.words_long, listed _ _ _ c.requires (c.slot_at-named.ensures c.args.setup.pages c.requires.lent.canonical) c.if-named-eq0.false)
+    let v = c.args.setup.pages in
+    let h = c.requires in
+    let w = c.slot_at-named.ensures v h.lent.canonical in
+    let some = c.if-named-eq0.false in
+    (h.lent.words_long, listed _ _ _ h w some)
 
 pub returns-in_default : goal.returns-in_default
 returns-in_default c =
     let a = c.args in
-    let not-clear = rw (place_read a.setup a.tables.now _ _ (named _ _ _ c.requires (c.slot_at-named.ensures c.args.setup.pages c.requires.lent.canonical) c.if-named-eq0.false).number
-    (c.place_at-place.ensures a.setup.pages)) at c.in_default.not-Clear in
-    λ z. record { is = seal_named_holds _ _ _ _ _ (named _ _ _ c.requires (c.slot_at-named.ensures c.args.setup.pages c.requires.lent.canonical) c.if-named-eq0.false).names (seal_none _ _ _ _ _ _ not-clear); canonical = λ h. h }
+    let v = a.setup.pages in
+    let h = c.requires in
+    let w = c.slot_at-named.ensures v h.lent.canonical in
+    let some = c.if-named-eq0.false in
+    let n = named _ _ _ h w some in
+    let not-clear = rw (place_read a.setup a.tables.now _ _ n.number (c.place_at-place.ensures v)) at c.in_default.not-Clear in
+    λ z. record { is = seal_named_holds _ _ _ _ _ n.names (seal_none _ _ _ _ _ _ not-clear); canonical = λ m. m }
 
 pub seal_bytes-requires : goal.seal_bytes-requires
 seal_bytes-requires c =
+    let v = c.args.setup.pages in
     let h = c.requires in
-    all_fit _ h.lent h.frame (few _ _ _ c.requires (c.slot_at-named.ensures c.args.setup.pages c.requires.lent.canonical) c.if-named-eq0.false) (signed _ _ _ c.requires (c.slot_at-named.ensures c.args.setup.pages c.requires.lent.canonical) c.if-named-eq0.false (c.place_at-place.ensures c.args.setup.pages) c.in-Clear.is (c.used_at-used.ensures c.args.setup.pages) c.sealed_with-k.ensures)
+    let w = c.slot_at-named.ensures v h.lent.canonical in
+    let some = c.if-named-eq0.false in
+    let k = signed _ _ _ h w some (c.place_at-place.ensures v) c.in-Clear.is (c.used_at-used.ensures v) c.sealed_with-k.ensures in
+    all_fit _ h.lent h.frame (few _ _ _ h w some) k
 
 pub put_move-requires : goal.put_move-requires
 unfolding PlaceFits NamesFit sign_word
 put_move-requires c =
-    let h = c.requires in (
+    let v = c.args.setup.pages in
+    let h = c.requires in
+    let w = c.slot_at-named.ensures v h.lent.canonical in
+    let some = c.if-named-eq0.false in
+    let k = signed _ _ _ h w some (c.place_at-place.ensures v) c.in-Clear.is (c.used_at-used.ensures v) c.sealed_with-k.ensures in (
       h.lent.words_long,
       h.lent.some_pages,
       h.limited.pages,
-      listed _ _ _ c.requires (c.slot_at-named.ensures c.args.setup.pages c.requires.lent.canonical) c.if-named-eq0.false,
+      listed _ _ _ h w some,
       omega (arith, h.frame, h.limited.frames),
-      omega (arith, signed _ _ _ c.requires (c.slot_at-named.ensures c.args.setup.pages c.requires.lent.canonical) c.if-named-eq0.false (c.place_at-place.ensures c.args.setup.pages) c.in-Clear.is (c.used_at-used.ensures c.args.setup.pages) c.sealed_with-k.ensures, h.limited.signatures),
+      omega (arith, k, h.limited.signatures),
       tt,
     )
 
 pub used_after-requires : goal.used_after-requires
 used_after-requires c =
-    rw (c.used_at-used.ensures c.args.setup.pages)
-    (omega (arith, enough _ _ _ c.requires (c.slot_at-named.ensures c.args.setup.pages c.requires.lent.canonical) c.if-named-eq0.false (c.place_at-place.ensures c.args.setup.pages) c.in-Clear.is, c.requires.limited.signatures))
+    let v = c.args.setup.pages in
+    let h = c.requires in
+    let w = c.slot_at-named.ensures v h.lent.canonical in
+    let some = c.if-named-eq0.false in
+    rw (c.used_at-used.ensures v)
+    (omega (arith, enough _ _ _ h w some (c.place_at-place.ensures v) c.in-Clear.is, h.limited.signatures))
 
 pub returns : goal.returns
 returns c =
     let v = c.args.setup.pages in
+    let h = c.requires in
+    let w = c.slot_at-named.ensures v h.lent.canonical in
+    let some = c.if-named-eq0.false in
+    let n = named _ _ _ h w some in
+    let clear = placed_clear _ _ _ h w some (c.place_at-place.ensures v) c.in-Clear.is in
     let used = c.used_at-used.ensures v in
     let bytes = c.seal_bytes.ensures in
     let moved = c.put_move.ensures in
     let counted = c.put_used.ensures v in
     λ z. record {
       is =
-          seal_named_holds _ _ _ _ _ (named _ _ _ c.requires (c.slot_at-named.ensures c.args.setup.pages c.requires.lent.canonical) c.if-named-eq0.false).names
-          (seal_clear _ _ _ _ _ c.args.work _ _ _ z _ _ (named _ _ _ c.requires (c.slot_at-named.ensures c.args.setup.pages c.requires.lent.canonical) c.if-named-eq0.false).number (placed_clear _ _ _ c.requires (c.slot_at-named.ensures c.args.setup.pages c.requires.lent.canonical) c.if-named-eq0.false (c.place_at-place.ensures c.args.setup.pages) c.in-Clear.is)
+          seal_named_holds _ _ _ _ _ n.names
+          (seal_clear _ _ _ _ _ c.args.work _ _ _ z _ _ n.number clear
           (rw used at c.sealed_with-k.ensures)
           bytes.frames_left
           bytes.store_left
           (rw used at c.used_after.ensures)
           moved
           counted);
-      canonical = λ h. counted.canonical (moved.canonical h);
+      canonical = λ m. counted.canonical (moved.canonical m);
     }
