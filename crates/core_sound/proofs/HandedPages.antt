@@ -10,7 +10,8 @@ use borrow.Author.Tests.{eq-eqb}
 use Rattle.rules.specs.Bytes.{all_of}
 use Rattle.rules.specs.Sizes.{max_domains, max_contexts, max_frames, domain_in}
 use Rattle.rules.specs.Records.{life_of, names_of, is_empty, names_page}
-use Rattle.rules.specs.Sound.{domain_sound, begun, context_sound, mapping_sound, place_sound, untouched, owned_sound, page_sound, frame_sound}
+use Rattle.rules.specs.Sound.{domain_sound, begun, context_sound, mapping_sound, place_sound, untouched, owned_sound}
+use Rattle.rules.specs.Sound.{page_sound, frame_sound}
 use Rattle.rules.specs.declared.Setup.{Setup}
 use Rattle.rules.specs.declared.Asid.{Asid}
 use Rattle.rules.specs.declared.DomainRecord.{DomainRecord}
@@ -170,7 +171,8 @@ module _ (s : Setup) (x : List ℕ) (room : Room s) (canon : Canonical s.pages x
     sign_told : T (eqb (word_at x (sign_at + i)) 0 || ltb (word_at x (sign_at + i) - 1) (word_at x used_at))
     sign_told = by (word_at x (home_at + i)) refl
       where
-        by : (w : ℕ) → word_at x (home_at + i) ≡ w → T (eqb (word_at x (sign_at + i)) 0 || ltb (word_at x (sign_at + i) - 1) (word_at x used_at))
+        by : (w : ℕ) → word_at x (home_at + i) ≡ w
+            → T (eqb (word_at x (sign_at + i)) 0 || ltb (word_at x (sign_at + i) - 1) (word_at x used_at))
         by zero e = if_zero (word_at x (home_at + i)) _ _ place_told e
         by (suc w) e =
             first_true (eqb (word_at x (sign_at + i)) 0 || ltb (word_at x (sign_at + i) - 1) (word_at x used_at)) true

@@ -50,7 +50,8 @@ module _ (x held : List ℕ) (n : ℕ) (old : Holds x n held) (fits : word_at x 
       by false q =
           let ne = eqb-false (word_at x (frames_at + f)) (word_at x (frames_at + n)) q in
           let apart : f ≡ n → ⊥ = λ s. ne (ap (λ (m : ℕ). word_at x (frames_at + m)) s) in
-          old.found f (below f n h apart) (rw (get_or-set_other held (word_at x (frames_at + n)) (word_at x (frames_at + f)) (n + 1) 0 ne) at e)
+          old.found f (below f n h apart)
+          (rw (get_or-set_other held (word_at x (frames_at + n)) (word_at x (frames_at + f)) (n + 1) 0 ne) at e)
         where
           below : (f n : ℕ) → f < n + 1 → (f ≡ n → ⊥) → f < n
           below f n h ne = omega arith
