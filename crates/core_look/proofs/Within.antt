@@ -4,10 +4,9 @@ use mathlib.Core.Path.{◌≡◌, refl, sym, ap, ◌∙◌}
 use mathlib.Core.List.{List, [], ◌∷◌}
 use mathlib.Core.Bool.{Bool, true, false, ◌&&◌, not, cond}
 use Prim.Native.Nat.{ℕ, ◌+◌, ◌*◌, ◌≤◌, ◌<◌}
-use native.Mathlib.Omega.{arith}
 use lib.ListN.{length, get_or}
-use lib.Dec.{T, ltb→lt}
-use borrow.Author.Tests.{ne_eqb, eqb-false, not-false}
+use lib.Dec.{ltb→lt}
+use borrow.Author.Tests.{ne_eqb, eqb-false}
 use Rattle.rules.specs.Bytes.{all_of}
 use Rattle.rules.specs.Sizes.{page_number, domain_in, page_in}
 use Rattle.rules.specs.Records.{machine, place_of, is_public, public_page}
@@ -68,13 +67,13 @@ module _ (s : Setup) (x y frames store : List ℕ) (d : Asid) (v : Gvpn) where
       by false = refl
 
   -- the two tests of sizes, made and passed, leave only whether the page is Public
-  module _ {a b : Bool} (l : a ≡ lookable_in s x y frames store) (p : not a ≡ false)
-      (i : b ≡ all_of (domain_in s d ∷ page_in s v ∷ [])) (q : not b ≡ false) where
+  module _ {a b : Bool} (l : a ≡ lookable_in s x y frames store) (p : a ≡ true)
+      (i : b ≡ all_of (domain_in s d ∷ page_in s v ∷ [])) (q : b ≡ true) where
     pub within : Within s x y frames store d v
     unfolding domain_in page_in
     within =
-        let e = each _ (passed _ (sym i ∙ not-false b q)) in
-        let r = both_hold (readable s x y) _ (sym l ∙ not-false a p) in
+        let e = each _ (passed _ (sym i ∙ q)) in
+        let r = both_hold (readable s x y) _ (sym l ∙ p) in
         record {
           long = (is_readable s x y r.0).tables_long;
           looks = lookable_facts s _ r.1;
@@ -95,7 +94,7 @@ module _ (s : Setup) (x y frames store : List ℕ) (d : Asid) (v : Gvpn) where
         let inside = all_of (domain_in s d ∷ page_in s v ∷ []) in
         let public = is_public (place_of s (tables_in s.pages x) d v) in
         let u = unrefused (lookable_in s x y frames store) inside public (sym number_first ∙ sym e ∙ z) in
-        within refl (ap not u.0) refl (ap not u.1)
+        within refl u.0 refl u.1
 
     read_image : n ≡ 0 → readable s x y ≡ true
     unfolding look_number

@@ -49,4 +49,4 @@ pub record Shows (s : Setup) (tables saved frames store : Slice) (d : Asid) (v :
   pub bytes : r.now
       ≡ look_bytes s tables.entry.now saved.entry.now frames.entry.now store.entry.now d v
   pub stands : r.ref_ptr
-      ≡ look_from s (NumberOf s tables saved frames store d v) tables.entry.now d v frames.entry.ptr store.entry.ptr
+      ≡ look_from s (NumberOf s tables saved frames store d v) tables.entry.now d v frames.entry.ref_ptr store.entry.ref_ptr

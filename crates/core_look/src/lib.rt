@@ -49,8 +49,8 @@ pub fn look_number(
 // Part k of bytes that are cut into parts of size bytes each, where it stands.
 fn part_of<'a>(bytes: &'a [u8], size: usize, k: usize) -> &'a [u8]
     requires { k * size + size ≤ length bytes.now }
-    ensures result_value { result.now ≡ part size k bytes.now }
-    ensures ref_ptr_value { result.ref_ptr ≡ past (k * size) bytes.entry.ref_ptr }
+    ensures holds { result.now ≡ part size k bytes.now }
+    ensures stands { result.ref_ptr ≡ past (k * size) bytes.entry.ref_ptr }
 {
     let a = k * size;
     let e = a + size;
