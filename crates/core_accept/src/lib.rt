@@ -31,8 +31,7 @@ pub fn startable(
     store: &[u8],
     supply: &[u8],
 ) -> bool
-    ensures { result ≡ startable_in setup tables.now saved.now frames.now store.now
-        supply.now }
+    ensures { result ≡ startable_in setup tables.now saved.now frames.now store.now supply.now }
 {
     if lent(setup, tables, saved, frames, store) {
         supply.len() == setup.signatures * setup.size
@@ -61,8 +60,7 @@ pub fn acceptable(
     store: &[u8],
     supply: &[u8],
 ) -> bool
-    ensures { result ≡ acceptable_in setup tables.now saved.now frames.now store.now
-        supply.now }
+    ensures { result ≡ acceptable_in setup tables.now saved.now frames.now store.now supply.now }
 {
     if lookable(setup, tables, saved, frames, store) {
         supply.len() == setup.signatures * setup.size
