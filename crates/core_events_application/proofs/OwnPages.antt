@@ -14,11 +14,7 @@ use Rattle.rules.proofs.Facts.{each, passes}
 use Rattle.rules.proofs.PageNumbers.{numbered}
 use Rattle.rules.proofs.Parts.{part_fits}
 use Rattle.rules.specs.declared.Tables.{Tables}
-use Rattle.rules.specs.declared.Gppn.{Gppn}
 use Rattle.rules.specs.declared.Gvpn.{Gvpn}
-use Rattle.rules.specs.declared.Wear.{Wear}
-use Rattle.rules.specs.declared.Place.{Place}
-use Rattle.rules.specs.declared.Place.TheVariants.{Clear}
 use Rattle.rules.specs.declared.Ctc.{Ctc}
 use Rattle.core_tables.specs.Image.{tables_in}
 use Rattle.core_tables.proofs.Homes.{home, own_frame_holds}
@@ -27,10 +23,6 @@ use Rattle.core_answer.specs.Handed.{Handed, refuses}
 use Rattle.core_answer.proofs.Laws.{was_accepted, was_granted, was_tested}
 use Rattle.core_events_application.specs.OwnPages.{Owned, own_of}
 use Rattle.core_events_application.specs.declared.pages.Own.{Own}
-
--- a place that is not Clear
-abbrev pub NotClear : Place → Type 0
-NotClear p = (h : Gppn) (w : Wear) → p ≡ Clear h w → ⊥
 
 -- the work at the outset: nothing is sealed or unveiled yet
 abbrev pub outset : Work

@@ -31,11 +31,12 @@ use Rattle.core_tables.specs.Image.{image_words, max_entries, tables_in, saved_i
 use Rattle.core_tables.specs.Put.{Put, set_page}
 use Rattle.core_seal.specs.Asked.{Bringable}
 use Rattle.core_seal.proofs.Granted.{bringable}
+use Rattle.core_seal.proofs.Steps.{NotClear}
 use Rattle.core_answer.specs.Handed.{Handed, handed, given_in, refuses, stepped, leaves, ends}
 use Rattle.core_answer.proofs.Laws.{found, was_accepted, was_granted, granted_leaves}
 use Rattle.core_events_application.specs.OwnPages.{Owned, own_of, written_tables}
 use Rattle.core_events_application.specs.declared.pages.Own.{Own}
-use Rattle.core_events_application.proofs.OwnPages.{NotClear, outset, owned, domain_in_holds, own_number, frame_in_holds, frame_fits}
+use Rattle.core_events_application.proofs.OwnPages.{outset, owned, domain_in_holds, own_number, frame_in_holds, frame_fits}
 
 -- a page that was written, by its place
 module _ (v : ℕ) (x : List ℕ) (n : ℕ) (p : Place) (at : p ≡ (get_or (tables_in v x).pages n public_page).place) where

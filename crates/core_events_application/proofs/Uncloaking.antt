@@ -22,11 +22,12 @@ use Rattle.rules.specs.declared.Event.TheVariants.{Uncloak}
 use Rattle.core_tables.specs.Words.{PlaceFits, sign_word}
 use Rattle.core_tables.specs.Image.{image_words, max_entries, tables_in, saved_in}
 use Rattle.core_tables.specs.Put.{Put, set_page, set_names}
+use Rattle.core_seal.proofs.Steps.{NotClear}
 use Rattle.core_answer.specs.Handed.{Handed, handed, machine_in, refuses, stepped, ends}
 use Rattle.core_answer.proofs.Laws.{was_accepted, granted_leaves}
 use Rattle.core_events_application.specs.OwnPages.{Owned, own_of, Openable, Opened}
 use Rattle.core_events_application.specs.declared.pages.Own.{Own}
-use Rattle.core_events_application.proofs.OwnPages.{NotClear, owned, domain_in_holds, own_number, slot_fits}
+use Rattle.core_events_application.proofs.OwnPages.{owned, domain_in_holds, own_number, slot_fits}
 
 -- the frame in which a page is Clear, if it is
 module _ (s : Setup) (words frames : List ℕ) where

@@ -134,7 +134,8 @@ pub fn kernel_write(
     data: &[u8],
     answer: &[u8],
 ) -> Answer
-    requires { Granted (handed setup tables.old saved.now frames.old store.old supply.now (Event.KernelWrite f span) «data».now answer.now) }
+    requires { Granted
+        (handed setup tables.old saved.now frames.old store.old supply.now (Event.KernelWrite f span) «data».now answer.now) }
     ensures { Steps (handed setup tables.old saved.now frames.old store.old supply.now (Event.KernelWrite f span) «data».now answer.now)
         (left result tables.new saved.now frames.new store.new answer.now) }
 {
