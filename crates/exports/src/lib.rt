@@ -12,6 +12,7 @@ use trace_form::Fields;
 use trace_read::Found;
 
 // Every byte of dst from src, where src is as long; else none.
+#[tactic(auto, unfolding(crate::specs::Leaves::copied))]
 #[unsafe(no_mangle)]
 pub extern "C" fn leaf_copy(dst: &mut [u8], src: &[u8])
     ensures { dst.new ≡ copied src.now dst.old }
