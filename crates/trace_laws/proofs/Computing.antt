@@ -3,7 +3,8 @@
 use Rattle.rules.proofs.Computing.{computing}
 use Rattle.trace_form.specs.Form.{widths_of, head_of, head_bytes, values_at, event_of}
 use Rattle.trace_form.specs.Header.{header_bytes, header_of, header_values}
-use Rattle.trace_read.specs.Reading.{sizes_whole, sizes_at, header_at, kind_in, has_event, event_at, data_at, head_whole, record_of, read_at}
+use Rattle.trace_read.specs.Reading.{sizes_whole, sizes_at, header_at, kind_in, has_event, event_at, data_at, head_whole}
+use Rattle.trace_read.specs.Reading.{record_of, read_at}
 use Rattle.trace_write.specs.Writing.{written, header_refusal, write_header, record_bytes, numbers_fit, span_fits, refusal_of}
 use Rattle.trace_write.specs.Writing.{record_refusal, write_record}
 use Rattle.trace_laws.specs.Traces.{read_records, read_trace, write_records, write_trace}

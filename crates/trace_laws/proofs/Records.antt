@@ -209,12 +209,14 @@ module _ (f : Form) (right : Right f) where
     begins : take head.bytes bytes ≡ head_bytes head (kind_of e) (fields_of e)
     begins =
         ap (take head.bytes) parted
-        ∙ take_at (head_bytes head (kind_of e) (fields_of e)) (new ++ tail) head.bytes (length_head head laid_head (kind_of e) (fields_of e))
+        ∙ take_at (head_bytes head (kind_of e) (fields_of e)) (new ++ tail) head.bytes
+        (length_head head laid_head (kind_of e) (fields_of e))
 
     behind_head : drop head.bytes bytes ≡ new ++ tail
     behind_head =
         ap (drop head.bytes) parted
-        ∙ drop_at (head_bytes head (kind_of e) (fields_of e)) (new ++ tail) head.bytes (length_head head laid_head (kind_of e) (fields_of e))
+        ∙ drop_at (head_bytes head (kind_of e) (fields_of e)) (new ++ tail) head.bytes
+        (length_head head laid_head (kind_of e) (fields_of e))
 
     kind_back : kind_of e ≡ kind_in f bytes
     unfolding kind_in head_of
@@ -231,8 +233,8 @@ module _ (f : Form) (right : Right f) where
     record_back : Record e head.bytes (data_length e) (place + head.bytes + data_length e) ≡ record_of f (kind_of e) bytes place
     unfolding values_at
     record_back =
-        head_read f bytes place (kind_of e) head refl (omega (arith, length_bytes)) _ refl (padding_in (values_at head bytes)) (fields_of e) e _
-        refl (ap padding_in values_same)
+        head_read f bytes place (kind_of e) head refl (omega (arith, length_bytes)) _ refl
+        (padding_in (values_at head bytes)) (fields_of e) e _ refl (ap padding_in values_same)
         (sym (ap fields_in values_same ∙ values_back (kind_of e) (fields_of e) fit.fields.some))
         (sym (event_of_fields e))
         (data_whole (length bytes) place head.bytes e (data_length e) refl (omega (arith, length_bytes)) (omega (arith, length_bytes)))
