@@ -3,7 +3,6 @@ use mathlib.Core.Path.{sym, ap, ◌∙◌}
 use Rattle.core_answer.specs.Handed.{ends}
 use Rattle.core_answer.proofs.Laws.{found}
 use Rattle.core_events_kernel.proofs.Ending.{endable, end_leaves}
-use borrow.Author.Rules.{rules}
 use Rattle.core_events_kernel.proofs.end.Goals as goal
 
 pub end-requires : goal.end-requires
