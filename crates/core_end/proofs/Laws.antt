@@ -78,5 +78,6 @@ pub sets_more : {A : Type 0} (a : A) (l : List A) (at i : ℕ) → set (sets l a
 sets_more a l at i = rw add-one (sets_suc a l at i)
 
 -- a domain's pages end within the table
-pub slots_fit : (d domains pages : ℕ) → d < domains → domains ≤ max_domains → pages ≤ max_pages → d * pages + pages ≤ max_domains * max_pages
+pub slots_fit : (d domains pages : ℕ) → d < domains → domains ≤ max_domains → pages ≤ max_pages
+    → d * pages + pages ≤ max_domains * max_pages
 slots_fit d domains pages h few small = omega (arith, mul-le-mul_right pages h, mul-le-mul few small)

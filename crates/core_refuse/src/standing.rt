@@ -15,6 +15,7 @@ use rules::{
 };
 
 // The order of the checks on records.
+#[tactic(auto, unfolding(crate::specs::Stages::record_checks, rules::specs::Answers::check, rules::specs::Answers::first_of))]
 fn fit(condition: bool, live: bool, mapped: bool) -> u8
     ensures { result ≡ first_of (record_checks condition live mapped) }
 {
@@ -31,6 +32,7 @@ fn fit(condition: bool, live: bool, mapped: bool) -> u8
 }
 
 // Whether so many signatures are left.
+#[tactic(auto, unfolding(crate::specs::Stages::seal_checks, rules::specs::Answers::check, rules::specs::Answers::first_of))]
 fn spare(setup: Setup, used: u16, takes: usize) -> u8
     requires { takes ≤ max_signatures }
     ensures { result ≡ first_of (seal_checks setup used takes) }
