@@ -1,6 +1,5 @@
 -- `perform` meets its contract: in each arm the event is known, and its function leaves what the rules leave.
 use Rattle.core_events.proofs.Known.{asked, leaves_it}
-use borrow.Author.Rules.{rules}
 use Rattle.core_events.proofs.perform.Goals as goal
 
 pub begin-requires : goal.begin-requires
