@@ -20,7 +20,9 @@ abbrev held : Setup → List ℕ → Tables
 held s x = tables_in s.pages x
 
 -- the second stage, over the records that were read
-second : (c : After-fit-number) → c.fit-number.result ≡ first_of (of_row c.args.setup (held c.args.setup c.args.tables.now) (Cloak c.args.c c.args.v))
+second : (c : After-fit-number)
+    → let a = c.args in let t = held a.setup a.tables.now in
+    c.fit-number.result ≡ first_of (of_row a.setup t (Cloak a.c a.v))
 unfolding row on_page running not_stopped own_place own_mapped
 second c =
     let own = c.own_records-own.ensures in
@@ -34,12 +36,16 @@ second c =
     c.fit-number.ensures
 
 -- the mapped frame, which is within the setup
-framed : (c : After-frame) → c.frame.result ≡ own_frame c.args.setup (held c.args.setup c.args.tables.now) c.args.c c.args.v
+framed : (c : After-frame)
+    → let a = c.args in let t = held a.setup a.tables.now in
+    c.frame.result ≡ own_frame a.setup t a.c a.v
 unfolding own_frame
 framed c = rw c.own_records-own.ensures at c.frame.ensures
 
-within : (c : After-frame) → c.fit-number.result ≡ first_of (of_row c.args.setup (held c.args.setup c.args.tables.now) (Cloak c.args.c c.args.v))
-    → (own_frame c.args.setup (held c.args.setup c.args.tables.now) c.args.c c.args.v).0 < c.args.setup.frames
+within : (c : After-frame)
+    → let a = c.args in let t = held a.setup a.tables.now in
+    c.fit-number.result ≡ first_of (of_row a.setup t (Cloak a.c a.v))
+    → (own_frame a.setup t a.c a.v).0 < a.setup.frames
 unfolding row on_page
 within c second =
     let h = c.requires in
@@ -48,20 +54,26 @@ within c second =
 
 pub returns-then-number-ne0 : goal.returns-then-number-ne0
 returns-then-number-ne0 c =
-    records_refused c.args.setup (held c.args.setup c.args.tables.now) (Cloak c.args.c c.args.v) _ (second (goal.at.returns-then-number-ne0 c).After-fit-number) c.if-number-ne0.true
+    let a = c.args in
+    records_refused a.setup (held a.setup a.tables.now) (Cloak a.c a.v) _
+    (second (goal.at.returns-then-number-ne0 c).After-fit-number) c.if-number-ne0.true
 
 pub takes_named-takes-requires : goal.takes_named-takes-requires
-takes_named-takes-requires c = (c.requires.0, rw (framed (goal.at.takes_named-takes-requires c).After-frame) (within (goal.at.takes_named-takes-requires c).After-frame (second (goal.at.takes_named-takes-requires c).After-fit-number)))
+takes_named-takes-requires c =
+    let at = goal.at.takes_named-takes-requires c in
+    (c.requires.0, rw (framed at.After-frame) (within at.After-frame (second at.After-fit-number)))
 
 pub returns : goal.returns
 unfolding row on_page needed
 returns c =
-    records_passed c.args.setup (held c.args.setup c.args.tables.now) (Cloak c.args.c c.args.v) _ (second (goal.at.returns c).After-fit-number)
+    let at = goal.at.returns c in
+    let a = c.args in
+    records_passed a.setup (held a.setup a.tables.now) (Cloak a.c a.v) _ (second at.After-fit-number)
     c.if-number-ne0.false c.spare.result
     (rw (
       add-zero,
-      ← framed (goal.at.returns c).After-frame,
+      ← framed at.After-frame,
       ← c.takes_named-takes.ensures,
-      ← c.used_at.ensures c.args.setup.pages,
+      ← c.used_at.ensures a.setup.pages,
     )
     c.spare.ensures)

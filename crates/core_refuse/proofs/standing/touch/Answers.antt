@@ -25,7 +25,9 @@ abbrev held : Setup → List ℕ → Tables
 held s x = tables_in s.pages x
 
 -- the second stage, over the records that were read
-second : (c : After-fit-number) → c.fit-number.result ≡ first_of (of_row c.args.setup (held c.args.setup c.args.tables.now) (Read c.args.c c.args.v c.args.x))
+second : (c : After-fit-number)
+    → let a = c.args in let t = held a.setup a.tables.now in
+    c.fit-number.result ≡ first_of (of_row a.setup t (Read a.c a.v a.x))
 unfolding row touching on_page running not_stopped own_mapped all_of
 second c =
     let own = c.own_records-own.ensures in
@@ -38,35 +40,45 @@ second c =
     c.fit-number.ensures
 
 -- the mapped frame, which is within the setup, and the signatures that are needed
-framed : (c : After-frame-f) → c.frame-f.result ≡ own_frame c.args.setup (held c.args.setup c.args.tables.now) c.args.c c.args.v
+framed : (c : After-frame-f)
+    → let a = c.args in let t = held a.setup a.tables.now in
+    c.frame-f.result ≡ own_frame a.setup t a.c a.v
 unfolding own_frame
 framed c = rw c.own_records-own.ensures at c.frame-f.ensures
 
-told : (c : After-frame-f) → c.fit-number.result ≡ first_of (of_row c.args.setup (held c.args.setup c.args.tables.now) (Read c.args.c c.args.v c.args.x))
-    → (running (held c.args.setup c.args.tables.now) c.args.c ≡ true) × (own_mapped c.args.setup (held c.args.setup c.args.tables.now) c.args.c c.args.v ≡ true)
+told : (c : After-frame-f)
+    → let a = c.args in let t = held a.setup a.tables.now in
+    c.fit-number.result ≡ first_of (of_row a.setup t (Read a.c a.v a.x))
+    → (running t a.c ≡ true) × (own_mapped a.setup t a.c a.v ≡ true)
 unfolding row touching on_page
 told c second =
     let r = records_told _ _ _ (sym second ∙ c.if-number-ne0.false) in
     (passes _ (each _ (passed _ r.0)).0, r.1)
 
-within : (c : After-frame-f) → c.fit-number.result ≡ first_of (of_row c.args.setup (held c.args.setup c.args.tables.now) (Read c.args.c c.args.v c.args.x))
-    → (own_frame c.args.setup (held c.args.setup c.args.tables.now) c.args.c c.args.v).0 < c.args.setup.frames
+within : (c : After-frame-f)
+    → let a = c.args in let t = held a.setup a.tables.now in
+    c.fit-number.result ≡ first_of (of_row a.setup t (Read a.c a.v a.x))
+    → (own_frame a.setup t a.c a.v).0 < a.setup.frames
 within c second =
     let h = c.requires in
     own_frame_holds _ _ h.0.limited h.0.agreed _ _ h.1 h.2 (told c second).1
 
-signatures : (c : After-frame-f) → let f = own_frame c.args.setup (held c.args.setup c.args.tables.now) c.args.c c.args.v in
-    let p = own_place c.args.setup (held c.args.setup c.args.tables.now) c.args.c c.args.v in
-    needed c.args.setup (held c.args.setup c.args.tables.now) (sealed_first f p)
-    ≡ cond (is_clear_in f p) 0 (takes_at p + takes_named c.args.setup (held c.args.setup c.args.tables.now) (names_of (held c.args.setup c.args.tables.now) f))
+signatures : (c : After-frame-f)
+    → let a = c.args in let t = held a.setup a.tables.now in
+    let f = own_frame a.setup t a.c a.v in
+    let p = own_place a.setup t a.c a.v in
+    needed a.setup t (sealed_first f p)
+    ≡ cond (is_clear_in f p) 0 (takes_at p + takes_named a.setup t (names_of t f))
 signatures c =
     let h = c.requires in
     own_needed _ _ h.0.limited h.0.agreed _ _ h.1 h.2
 
-clear : (c : After-is_clear_in) → c.frame-f.result ≡ own_frame c.args.setup (held c.args.setup c.args.tables.now) c.args.c c.args.v
+clear : (c : After-is_clear_in)
+    → let a = c.args in let t = held a.setup a.tables.now in
+    c.frame-f.result ≡ own_frame a.setup t a.c a.v
     → c.is_clear_in.result
-    ≡ is_clear_in (own_frame c.args.setup (held c.args.setup c.args.tables.now) c.args.c c.args.v)
-    (own_place c.args.setup (held c.args.setup c.args.tables.now) c.args.c c.args.v)
+    ≡ is_clear_in (own_frame a.setup t a.c a.v)
+    (own_place a.setup t a.c a.v)
 unfolding own_place
 clear c framed =
     rw (← framed) (rw c.own_records-own.ensures at
@@ -74,33 +86,40 @@ clear c framed =
 
 pub returns-then-number-ne0 : goal.returns-then-number-ne0
 returns-then-number-ne0 c =
-    records_refused c.args.setup (held c.args.setup c.args.tables.now) (Read c.args.c c.args.v c.args.x) _ (second (goal.at.returns-then-number-ne0 c).After-fit-number) c.if-number-ne0.true
+    let a = c.args in
+    records_refused a.setup (held a.setup a.tables.now) (Read a.c a.v a.x) _
+    (second (goal.at.returns-then-number-ne0 c).After-fit-number) c.if-number-ne0.true
 
 pub returns-then-is_clear_in : goal.returns-then-is_clear_in
 unfolding row touching on_page
 returns-then-is_clear_in c =
+    let at = goal.at.returns-then-is_clear_in c in
+    let a = c.args in
     let zero = c.if-number-ne0.false in
-    let here = sym (clear (goal.at.returns-then-is_clear_in c).After-is_clear_in (framed (goal.at.returns-then-is_clear_in c).After-frame-f)) ∙ c.if-is_clear_in.true in
+    let here = sym (clear at.After-is_clear_in (framed at.After-frame-f)) ∙ c.if-is_clear_in.true in
     sym zero
-    ∙ none_needed c.args.setup (held c.args.setup c.args.tables.now) (Read c.args.c c.args.v c.args.x) _ (second (goal.at.returns-then-is_clear_in c).After-fit-number) c.requires.0.agreed.used
-    (signatures (goal.at.returns-then-is_clear_in c).After-frame-f ∙ rw here)
+    ∙ none_needed a.setup (held a.setup a.tables.now) (Read a.c a.v a.x) _ (second at.After-fit-number) c.requires.0.agreed.used
+    (signatures at.After-frame-f ∙ rw here)
 
 pub takes_named-requires : goal.takes_named-requires
 takes_named-requires c =
-    (c.requires.0, rw (framed (goal.at.takes_named-requires c).After-frame-f) (within (goal.at.takes_named-requires c).After-frame-f (second (goal.at.takes_named-requires c).After-fit-number)))
+    let at = goal.at.takes_named-requires c in
+    (c.requires.0, rw (framed at.After-frame-f) (within at.After-frame-f (second at.After-fit-number)))
 
 pub returns : goal.returns
 unfolding row touching on_page own_place
 returns c =
-    let elsewhere = sym (clear (goal.at.returns c).After-is_clear_in (framed (goal.at.returns c).After-frame-f)) ∙ c.if-is_clear_in.false in
-    records_passed c.args.setup (held c.args.setup c.args.tables.now) (Read c.args.c c.args.v c.args.x) _ (second (goal.at.returns c).After-fit-number)
+    let at = goal.at.returns c in
+    let a = c.args in
+    let elsewhere = sym (clear at.After-is_clear_in (framed at.After-frame-f)) ∙ c.if-is_clear_in.false in
+    records_passed a.setup (held a.setup a.tables.now) (Read a.c a.v a.x) _ (second at.After-fit-number)
     c.if-number-ne0.false c.spare.result
     (rw (
-      signatures (goal.at.returns c).After-frame-f,
+      signatures at.After-frame-f,
       elsewhere,
       ← rw c.own_records-own.ensures at c.takes.ensures,
-      ← framed (goal.at.returns c).After-frame-f,
+      ← framed at.After-frame-f,
       ← c.takes_named.ensures,
-      ← c.used_at.ensures c.args.setup.pages,
+      ← c.used_at.ensures a.setup.pages,
     )
     c.spare.ensures)
