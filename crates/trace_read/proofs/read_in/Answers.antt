@@ -15,18 +15,18 @@ pub returns-then-form-kind : goal.returns-then-form-kind
 unfolding kind_in
 returns-then-form-kind c =
     read_beyond c.args.form c.args.unread.now c.args.place (omega arith) c.if-unread-eq0.false
-    c.kind_in-kind.result c.kind_in-kind.ensures c.if-form-kind.true
+    c.kind_in-kind.result c.kind_in-kind.ensures (omega arith)
 
 pub returns-in_default : goal.returns-in_default
 unfolding kind_in
 returns-in_default c =
     read_none c.args.form c.args.unread.now c.args.place (omega arith) c.if-unread-eq0.false
-    c.kind_in-kind.result c.kind_in-kind.ensures c.if-form-kind.false (omega arith)
+    c.kind_in-kind.result c.kind_in-kind.ensures (omega arith) (omega arith)
 
 pub returns : goal.returns
 unfolding kind_in
 returns c =
     read_record c.args.form c.args.unread.now c.args.place (omega arith) c.if-unread-eq0.false
-    c.kind_in-kind.result c.kind_in-kind.ensures c.record_of.result c.if-form-kind.false
+    c.kind_in-kind.result c.kind_in-kind.ensures c.record_of.result (omega arith)
     (elim c.if-kind-lt7.branch [ in-0-to-6 w ↦ omega arith | in-7-to-13 w ↦ omega arith ])
     c.record_of.ensures
