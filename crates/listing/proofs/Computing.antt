@@ -5,7 +5,7 @@ use Rattle.core_tables.specs.Words.{mapping_in, mapping_word, wear_in, hidden_in
 use Rattle.core_tables.specs.Image.{table, tables_in, registers_in, saved_in, image_of, saved_words, canonical}
 use Rattle.core_answer.specs.Handed.{readable, refuses, stepped}
 use Rattle.core_accept.specs.Acceptable.{lent_right}
-use Rattle.std.specs.Started.{started}
+use Rattle.core_entry.specs.Started.{started}
 use Rattle.trace_laws.proofs.Computing.{trace_computing}
 use Rattle.listing_line.specs.Lines.{decimal_in, decimal, hex, counts_then, line, refused_line}
 use Rattle.listing.specs.Opening.{products_fit, opening_of, opening_at}

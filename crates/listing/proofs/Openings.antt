@@ -15,7 +15,7 @@ use Rattle.trace_read.proofs.Headers.{opened}
 use Rattle.trace_read.specs.declared.Header.{Header}
 use Rattle.trace_read.specs.declared.Header.TheVariants.{Sizes, Refused}
 use Rattle.core_answer.specs.Handed.{Left}
-use Rattle.std.specs.Started.{started}
+use Rattle.core_entry.specs.Started.{started}
 use Rattle.listing_line.specs.Lines.{refused_line, Put}
 use Rattle.listing.specs.Listing.{Point, point, run_at, supply_of, start_point}
 use Rattle.listing.specs.declared.Run.{Run}

@@ -2,4 +2,4 @@
 pub mod Opening
 pub mod Listing
 pub mod Filling
-pub mod Contracts
+pub mod Promises

@@ -7,7 +7,7 @@ use Rattle.rules.specs.declared.Setup.{Setup}
 use Rattle.rules.specs.declared.Event.{Event}
 use Rattle.core_tables.specs.Image.{used_at, image_words}
 use Rattle.core_answer.specs.Handed.{Handed, Left, handed, stepped}
-use Rattle.std.specs.Started.{started}
+use Rattle.core_entry.specs.Started.{started}
 use Rattle.trace_form.specs.Form.{first}
 use Rattle.trace_read.specs.Reading.{header_at, supply_in, read_at, data_in}
 use Rattle.trace_read.specs.declared.Found.{Found}

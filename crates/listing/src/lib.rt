@@ -8,7 +8,7 @@ ghost use Rattle.rules.specs.Asked.{Limited};
 ghost use Rattle.listing.specs.Opening.{products_fit, opening_at};
 ghost use Rattle.listing.specs.Listing.{shown_length, used_in};
 ghost use Rattle.listing.specs.Filling.{Ready, line_room, ended_fill, refusal_wrote};
-ghost use Rattle.listing.specs.Contracts.{Starts, ListsEvent, ListsNext, ListsFitting};
+ghost use Rattle.listing.specs.Promises.{Starts, ListsEvent, ListsNext, ListsFitting};
 
 use rules::{Answer, Event, Setup};
 use trace_read::{Found, Header};
