@@ -2,7 +2,7 @@
 //!
 //!     baseline/differ [PROGRAM [TRACES [SEED]]]
 //!
-//! PROGRAM reads a trace on standard input and writes its listing (default: target/bin/trace_run). Exit status 0 when all
+//! PROGRAM reads a trace on standard input and writes its listing (default: crates/trace_run/out/trace_run). Exit status 0 when all
 //! listings are equal and the traces reached every answer that each kind can get; 1 otherwise; 2 on a wrong argument.
 
 #![forbid(unsafe_code)]
@@ -18,7 +18,7 @@ use std::sync::Mutex;
 use std::thread;
 use std::time::{Duration, Instant};
 
-const DEFAULT_PROGRAM: &str = "target/bin/trace_run";
+const DEFAULT_PROGRAM: &str = "crates/trace_run/out/trace_run";
 const DEFAULT_TRACES: u64 = 8_000;
 const DEFAULT_SEED: u64 = 1;
 

@@ -20,51 +20,28 @@ use Rattle.core_answer.specs.Handed.{Handed, Left, given_in, machine_in, refuses
 use Rattle.core_answer.proofs.Laws.{was_granted, granted_leaves, refused_leaves}
 use Rattle.listing.specs.Listing.{shows_answer, is_shown, shown_length}
 
--- a number is none of those that it differs from
-differs : List ℕ → ℕ → Bool
-differs [] n = true
-differs (k ∷ ks) n = not (eqb n k) && differs ks n
-
-not_first : (b c : Bool) → not b && c ≡ true → b ≡ false
-not_first true c e = sym e
-not_first false c e = refl
-
-not_later : (b c : Bool) → not b && c ≡ true → c ≡ true
-not_later true true e = refl
-not_later true false e = e
-not_later false c e = e
-
-none_of : (ks : List ℕ) (n : ℕ) → differs ks n ≡ true → OneOf ks n → ⊥
-unfolding differs
-none_of [] n d o = o
-none_of (k ∷ []) n d o = eqb-false n k (not_first (eqb n k) true d) o
-none_of (k ∷ j ∷ ks) n d o =
-    let rest = differs (j ∷ ks) n in
-    ⊎_elim (eqb-false n k (not_first (eqb n k) rest d)) (none_of (j ∷ ks) n (not_later (eqb n k) rest d)) o
-
--- the kinds that show nothing
-abbrev hidden : List ℕ
-hidden = 0 ∷ 1 ∷ 2 ∷ 3 ∷ 5 ∷ 6 ∷ 7 ∷ 8 ∷ 9 ∷ 10 ∷ 11 ∷ 12 ∷ []
-
-abbrev pub Hidden : Event → Type 0
-Hidden e = OneOf hidden (tag_of the_type e)
-
-pub hidden_none : (e : Event) (n : ℕ) → Hidden e → 0 ≡ shown_length e n
-unfolding shown_length is_shown differs
-hidden_none (Begin d c) n h = refl
-hidden_none (End d) n h = refl
-hidden_none (Map d v f) n h = refl
-hidden_none (Unmap d v) n h = refl
-hidden_none (KernelRead f x) n h = absurd (none_of hidden 4 refl h)
-hidden_none (KernelWrite f x) n h = refl
-hidden_none (Resume d c) n h = refl
-hidden_none (Spawn c u) n h = refl
-hidden_none (Leave c) n h = refl
-hidden_none (Cloak c v) n h = refl
-hidden_none (Uncloak c v) n h = refl
-hidden_none (Read c v x) n h = refl
-hidden_none (Write c v x) n h = refl
-hidden_none (Trap c k mask) n h = absurd (none_of hidden 13 refl h)
+-- an event of another kind than the two that show something
+module _ {e : Event} (no_read : (f : Gppn) (x : Span) → e ≡ KernelRead f x → ⊥)
+    (no_trap : (c : Ctc) (k : TrapKind) (mask : ℕ) → e ≡ Trap c k mask → ⊥) where
+  pub shown_none : (n : ℕ) → 0 ≡ shown_length e n
+  unfolding shown_length is_shown
+  shown_none n = go e refl
+    where
+      go : (x : Event) → e ≡ x → 0 ≡ shown_length x n
+      go (Begin d c) s = refl
+      go (End d) s = refl
+      go (Map d v f) s = refl
+      go (Unmap d v) s = refl
+      go (KernelRead f x) s = absurd (no_read f x s)
+      go (KernelWrite f x) s = refl
+      go (Resume d c) s = refl
+      go (Spawn c u) s = refl
+      go (Leave c) s = refl
+      go (Cloak c v) s = refl
+      go (Uncloak c v) s = refl
+      go (Read c v x) s = refl
+      go (Write c v x) s = refl
+      go (Trap c k mask) s = absurd (no_trap c k mask s)
 
 -- done, or not
 pub shown_not : (e : Event) (n : ℕ) → (n ≡ 0 → ⊥) → 0 ≡ shown_length e n

@@ -2,7 +2,7 @@
 //!
 //!     baseline/bench [PROGRAM [RUNS]]
 //!
-//! PROGRAM reads a trace on standard input and writes its listing (default: target/bin/trace_run). The `baseline` program must
+//! PROGRAM reads a trace on standard input and writes its listing (default: crates/trace_run/out/trace_run). The `baseline` program must
 //! stand beside this one. With the feature `leaves` (see build.rs) the proved leaves and the proved reader are measured too.
 
 #![deny(unsafe_code)]
@@ -24,7 +24,7 @@ use std::fs;
 use std::process::ExitCode;
 use traces::Workload;
 
-const DEFAULT_PROGRAM: &str = "target/bin/trace_run";
+const DEFAULT_PROGRAM: &str = "crates/trace_run/out/trace_run";
 const DEFAULT_RUNS: usize = 41;
 
 /// Exit status 1 only where something could not be run or the listings differ.
