@@ -1,11 +1,11 @@
 -- What a start leaves, and that its words are the image of fresh tables and saved registers where they are as many as those have.
-use Rattle.std.specs.Prelude.{◌≡◌, ℕ, Bool, true, false, cond, List, [], length}
-use mathlib.Core.Path.{refl, sym, ◌∙◌}
+use Rattle.std.specs.Prelude.{◌≡◌, ℕ, Bool, true, false, List, [], length}
+use mathlib.Core.Path.{sym, ◌∙◌}
 use Rattle.rules.specs.Bytes.{zeros}
 use Rattle.rules.specs.declared.Setup.{Setup}
 use Rattle.core_answer.specs.Handed.{left}
 use Rattle.core_accept.specs.Acceptable.{startable_in}
-use Rattle.core_entry.specs.Started.{started, started_by}
+use Rattle.core_entry.specs.Started.{started}
 
 module _ (s : Setup) (tables saved frames store supply : List ℕ) {taken : Bool}
     (is : taken ≡ startable_in s tables saved frames store supply) {x y : List ℕ} (zero_tables : x ≡ zeros (length tables))

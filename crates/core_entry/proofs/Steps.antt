@@ -1,10 +1,10 @@
 -- What an event leaves, by the tests that are made of what is handed in: not acceptable, refused by a later check, or granted.
-use Rattle.std.specs.Prelude.{◌≡◌, ℕ, Bool, true, false, not, T, length}
-use mathlib.Core.Path.{refl, sym, ap, ◌∙◌}
+use Rattle.std.specs.Prelude.{◌≡◌, ℕ, Bool, true, false, length}
+use mathlib.Core.Path.{sym, ◌∙◌}
 use native.Mathlib.Omega.{arith}
 use Rattle.rules.specs.Events.{row}
 use Rattle.rules.specs.Answers.{check, first_of, checks}
-use Rattle.rules.proofs.Facts.{accepted, passed}
+use Rattle.rules.proofs.Facts.{accepted}
 use Rattle.core_tables.specs.Image.{tables_in}
 use Rattle.core_tables.specs.Tested.{Tested}
 use Rattle.core_answer.specs.Handed.{Handed, Left, given_in, machine_in, readable, refuses, stepped, keeps}
