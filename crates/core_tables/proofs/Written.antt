@@ -70,7 +70,7 @@ pub page_mapping : (x y : List ℕ) (k w : ℕ) (r : Mapping) → k < max_entrie
     → mapping_in w ≡ r → Same x y home_at max_entries → Same x y sign_at max_entries
     → table (page_at y) 0 max_entries
     ≡ set (table (page_at x) 0 max_entries) k
-        (record { mapping = r; place = (get_or (table (page_at x) 0 max_entries) k public_page).place })
+    (record { mapping = r; place = (get_or (table (page_at x) 0 max_entries) k public_page).place })
 page_mapping x y k w r b m new back h s =
     table_set (page_at x) (page_at y) 0 max_entries k _ b
     (rw (zero-add, new, back, h k b, s k b, get_d_table (page_at x) 0 max_entries k public_page b, zero-add))
@@ -81,7 +81,7 @@ pub page_place : (x y : List ℕ) (k w z : ℕ) (r : Place) → k < max_entries 
     → get_or y (home_at + k) 0 ≡ w → get_or y (sign_at + k) 0 ≡ z → place_in w z ≡ r → Same x y mapped_at max_entries
     → table (page_at y) 0 max_entries
     ≡ set (table (page_at x) 0 max_entries) k
-        (record { mapping = (get_or (table (page_at x) 0 max_entries) k public_page).mapping; place = r })
+    (record { mapping = (get_or (table (page_at x) 0 max_entries) k public_page).mapping; place = r })
 page_place x y k w z r b h s newh news back m =
     table_set (page_at x) (page_at y) 0 max_entries k _ b
     (rw (zero-add, newh, news, back, m k b, get_d_table (page_at x) 0 max_entries k public_page b, zero-add))
