@@ -1,6 +1,7 @@
 -- The listing by the library's own calls: what a filled output holds is the first of the lines from the point before, and the lines
 -- from the point behind it are the rest. So filling outputs one after the other to the trace's end gives all of the lines.
-use Rattle.std.proofs.Common.{◌≡◌, ℕ, zero, suc, ◌+◌, ◌-◌, ◌<◌, ◌≤◌, List, ◌++◌, length, take, drop, sym, refl, ap, ◌∙◌, subst, append_assoc, arith, take_at}
+use Rattle.std.proofs.Common.{◌≡◌, ℕ, zero, suc, ◌+◌, ◌-◌, ◌<◌, ◌≤◌, List, ◌++◌, length, take, drop, sym, refl, ap, ◌∙◌, subst}
+use Rattle.std.proofs.Common.{append_assoc, arith, take_at}
 use native.Mathlib.Decide.{dec_lt}
 use Rattle.rules.specs.Bytes.{overlay}
 use Rattle.rules.proofs.Parts.{overlay_is}

@@ -1,5 +1,6 @@
 -- The header's checks, each by the test that the code makes; and what a start leaves.
-use Rattle.std.proofs.Common.{◌≡◌, ℕ, ◌*◌, ◌<◌, ◌≤◌, Bool, true, false, cond, T, ltb, leb, List, [], length, sym, refl, ap, ◌∙◌, subst, mul-le-mul, zero-add, arith, leb→le, length-take-le, le-ltb, lt-ltb, le-leb}
+use Rattle.std.proofs.Common.{◌≡◌, ℕ, ◌*◌, ◌<◌, ◌≤◌, Bool, true, false, cond, T, ltb, leb, List, [], length, sym, refl, ap, ◌∙◌, subst}
+use Rattle.std.proofs.Common.{mul-le-mul, zero-add, arith, leb→le, length-take-le, le-ltb, lt-ltb, le-leb}
 use mathlib.Core.Bool.{and-true}
 use Rattle.io.specs.Counts.{IsPrefixLen}
 use borrow.Author.Tests.{lt-leb}

@@ -1,11 +1,8 @@
 -- How much of the answer buffer a line shows: nothing of an event that is not done, and else as much as its event asks, for which the
 -- buffer has room.
-use Rattle.std.proofs.Common.{◌≡◌, ℕ, ◌≤◌, Bool, true, false, cond, not, ◌&&◌, eqb, List, [], ◌∷◌, length, sym, refl, ap, ◌∙◌, ⊎_elim, arith, ne_eqb, eqb-true}
+use Rattle.std.proofs.Common.{◌≡◌, ℕ, ◌≤◌, Bool, true, false, cond, ◌&&◌, eqb, length, refl, ap, ◌∙◌, arith, ne_eqb, eqb-true}
 use mathlib.Core.Bool.{and-false}
-use types.Run.{OneOf}
-use denote.Enum.Declared.{tag_of}
 use borrow.Author.Tests.{eqb-false}
-use Rattle.rules.specs.contracts.Event.{the_type}
 use Rattle.rules.proofs.Parts.{length_overlay}
 use Rattle.rules.specs.Events.{answer_length}
 use Rattle.rules.specs.Answers.{refused, perform, performed, step}

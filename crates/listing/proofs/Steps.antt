@@ -1,6 +1,7 @@
 -- The laws of the listing: every line brings the run forward, so the lines from a point are its next line and those from the point
 -- behind that; and an output filled with lines holds the first of them.
-use Rattle.std.proofs.Common.{◌≡◌, ℕ, zero, suc, ◌+◌, ◌-◌, ◌<◌, ◌≤◌, List, [], ◌∷◌, ◌++◌, length, sym, refl, ap, ◌∙◌, arith, length-drop, le-ltb, lt-ltb, le-leb}
+use Rattle.std.proofs.Common.{◌≡◌, ℕ, zero, suc, ◌+◌, ◌-◌, ◌<◌, ◌≤◌, List, [], ◌∷◌, ◌++◌, length, sym, refl, ap, ◌∙◌, arith, length-drop}
+use Rattle.std.proofs.Common.{le-ltb, lt-ltb, le-leb}
 use native.Mathlib.Decide.{dec_lt}
 use borrow.Author.Tests.{lt-leb}
 use Rattle.trace_form.specs.Form.{first}
@@ -9,7 +10,7 @@ use Rattle.trace_read.specs.declared.Found.{Found}
 use Rattle.trace_read.specs.declared.Found.TheVariants.{End, Refused, Record}
 use Rattle.trace_laws.proofs.Records.{stands, takes_a_byte}
 use Rattle.trace_laws.proofs.Wholes.{first_right}
-use Rattle.listing.specs.Listing.{Point, Listed, unread, more, event_listed, listed_as, listed, listed_in, listed_from}
+use Rattle.listing.specs.Listing.{Point, Listed, unread, event_listed, listed_as, listed, listed_in, listed_from}
 use Rattle.listing.specs.Listing.{text_of, lines_from}
 use Rattle.listing.specs.Filling.{line_room, none, behind, fitting}
 

@@ -1,5 +1,6 @@
 -- One turn: what the core and the line's writer leave is the listing's next line and the point behind it.
-use Rattle.std.proofs.Common.{◌≡◌, ℕ, ◌+◌, ◌-◌, ◌<◌, ◌≤◌, List, length, take, sym, ap, ◌∙◌, le_of_eq, add-zero, arith, length-drop, length-take-le, take_all}
+use Rattle.std.proofs.Common.{◌≡◌, ℕ, ◌+◌, ◌-◌, ◌<◌, ◌≤◌, List, length, take, sym, ap, ◌∙◌, le_of_eq, add-zero, arith, length-drop}
+use Rattle.std.proofs.Common.{length-take-le, take_all}
 use lib.ListN.{get_or-eq_default}
 use Rattle.rules.specs.Bytes.{overlay}
 use Rattle.rules.specs.Events.{kind_of}

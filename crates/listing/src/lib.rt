@@ -68,8 +68,8 @@ pub fn opening(trace: &[u8]) -> Header
 
 // The line of a refused header, over the front of out; nothing where out is shorter than a line may be. How many bytes it takes.
 pub fn refusal(number: u8, out: &mut [u8]) -> usize
-    ensures out_after { record { count = result; out = out.new } ≡ refusal_wrote number out.old }
-    ensures prefix_len { IsPrefixLen result out.new }
+    ensures wrote { record { count = result; out = out.new } ≡ refusal_wrote number out.old }
+    ensures within { IsPrefixLen result out.new }
 {
     if out.len() < LINE {
         return 0;
@@ -134,8 +134,8 @@ fn event_turn(
     at: usize,
 ) -> Filled
     requires { (run.index < next) × (at + line_room (length answer.old) ≤ length out.old) }
-    ensures lists_event { ListsEvent run next event «data» trace tables saved frames store answer out at result }
-    ensures count_bound { result.count ≤ at + line_room (length answer.old) }
+    ensures lists { ListsEvent run next event «data» trace tables saved frames store answer out at result }
+    ensures within { result.count ≤ at + line_room (length answer.old) }
 {
     let s = run.setup;
     let supply = trace_read::supply(trace);
@@ -186,8 +186,8 @@ fn turn(
     at: usize,
 ) -> Filled
     requires { Ready trace.now run (length answer.old) (length out.old) at }
-    ensures lists_next { ListsNext run trace tables saved frames store answer out at result }
-    ensures count_bound { result.count ≤ at + line_room (length answer.old) }
+    ensures lists { ListsNext run trace tables saved frames store answer out at result }
+    ensures within { result.count ≤ at + line_room (length answer.old) }
 {
     let place = run.place;
     let unread = &trace[place..];
@@ -237,8 +237,8 @@ pub fn fill(
     answer: &mut [u8],
     out: &mut [u8],
 ) -> Filled
-    ensures lists_fitting { ListsFitting run trace tables saved frames store answer out result }
-    ensures prefix_len { IsPrefixLen result.count out.new }
+    ensures lists { ListsFitting run trace tables saved frames store answer out result }
+    ensures within { IsPrefixLen result.count out.new }
 {
     let mut after = run;
     let mut count: usize = 0;

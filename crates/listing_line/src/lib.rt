@@ -30,7 +30,7 @@ fn pair(out: &mut [u8], at: usize, first: u8, second: u8) -> usize
 fn number(out: &mut [u8], at: usize, n: u64) -> usize
     requires { at + 21 ≤ length out.old }
     ensures put { Put at (field_then (decimal n) []) out.old result out.new }
-    ensures upper_bound { result ≤ at + 21 }
+    ensures within { result ≤ at + 21 }
 {
     if n < 10 {
         return pair(out, at, 48 + n as u8, SPACE);
@@ -69,7 +69,7 @@ fn hex(out: &mut [u8], at: usize, bytes: &[u8]) -> usize
 fn last(out: &mut [u8], at: usize, shown: &[u8]) -> usize
     requires { at + 2 + 2 * length shown.now ≤ length out.old }
     ensures put { Put at (last_field shown.now ++ (newline ∷ [])) out.old result out.new }
-    ensures upper_bound { result ≤ at + 2 + 2 * length shown.now }
+    ensures within { result ≤ at + 2 + 2 * length shown.now }
 {
     if shown.len() == 0 {
         return pair(out, at, DASH, NEWLINE);
@@ -83,7 +83,7 @@ fn last(out: &mut [u8], at: usize, shown: &[u8]) -> usize
 fn counts(out: &mut [u8], at: usize, answer: Answer) -> usize
     requires { at + 84 ≤ length out.old }
     ensures put { Put at (counts_then answer []) out.old result out.new }
-    ensures upper_bound { result ≤ at + 84 }
+    ensures within { result ≤ at + 84 }
 {
     let one = number(out, at, answer.number as u64);
     let two = number(out, one, answer.seals as u64);
@@ -102,7 +102,7 @@ pub fn event_line(
 ) -> usize
     requires { at + 128 + 2 * length shown.now ≤ length out.old }
     ensures put { Put at (line index (decimal kind) answer shown.now) out.old result out.new }
-    ensures upper_bound { result ≤ at + 128 + 2 * length shown.now }
+    ensures within { result ≤ at + 128 + 2 * length shown.now }
 {
     let one = number(out, at, index as u64);
     let two = number(out, one, kind as u64);
@@ -114,7 +114,7 @@ pub fn event_line(
 pub fn refused_line(out: &mut [u8], at: usize, index: usize, why: u8, used: u16) -> usize
     requires { at + 128 ≤ length out.old }
     ensures put { Put at (refused_line index why used) out.old result out.new }
-    ensures upper_bound { result ≤ at + 128 }
+    ensures within { result ≤ at + 128 }
 {
     let answer = Answer {
         number: why,

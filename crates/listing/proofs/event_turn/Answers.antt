@@ -1,7 +1,6 @@
 -- What the core leaves is what the listing's step leaves, and what the line shows of the answer fits its buffer.
-use Rattle.std.proofs.Common.{arith}
 use Rattle.listing.specs.Listing.{Point, point}
-use Rattle.listing.proofs.Turns.{Shows, shows, event_turns}
+use Rattle.listing.proofs.Turns.{shows, event_turns}
 use Rattle.listing.proofs.event_turn.Goals as goal
 use Rattle.listing.proofs.event_turn.Goals.{Start}
 
@@ -22,8 +21,8 @@ slice_bounds-event_line-end-2 c =
     (shows (stands (goal.at.slice_bounds-event_line-end-2 c).Start) a.event a.next a.«data».now _ c.supply-supply.ensures
     c.step-told.ensures c.shown_length-shown.ensures).exact
 
-pub returns-clause-lists_event : goal.returns-clause-lists_event
-returns-clause-lists_event c =
+pub returns-clause-lists : goal.returns-clause-lists
+returns-clause-lists c =
     let a = c.args in
-    event_turns (stands (goal.at.returns-clause-lists_event c).Start) a.event a.next a.«data».now _ c.supply-supply.ensures
+    event_turns (stands (goal.at.returns-clause-lists c).Start) a.event a.next a.«data».now _ c.supply-supply.ensures
     c.step-told.ensures c.shown_length-shown.ensures c.kind.ensures c.event_line-count.ensures.put

@@ -13,11 +13,11 @@ loop-run-smaller g c =
     let l = c.loop-run in
     let p = point c.args.trace.now l.run l.tables l.saved l.frames l.store l.answer in
     let wide : line_room (length l.answer) ≤ length l.out = omega arith in
-    let further = left_further p l.out l.invariant c.fill-filled.ensures.lists_fitting c.loop-run-test.true wide in
+    let further = left_further p l.out l.invariant c.fill-filled.ensures.lists c.loop-run-test.true wide in
     omega arith
 
 pub loop-run-preserved : goal.loop-run-preserved
 loop-run-preserved g c =
     let l = c.loop-run in
     let p = point c.args.trace.now l.run l.tables l.saved l.frames l.store l.answer in
-    left_counted p l.out l.invariant c.fill-filled.ensures.lists_fitting
+    left_counted p l.out l.invariant c.fill-filled.ensures.lists
