@@ -10,7 +10,7 @@ use lib.Seq.{sets, take-suc, take_all, length-take-le}
 use Rattle.io.specs.Digits.{hex_digit_ascii}
 use Rattle.rules.specs.Bytes.{overlay}
 use Rattle.rules.specs.declared.Answer.{Answer}
-use Rattle.listing_line.specs.Lines.{hex, last_field, field_then, counts_then, Put}
+use Rattle.listing_line.specs.Lines.{dash, hex, last_field, field_then, counts_then, Put}
 
 sets_append : (a b l : List ℕ) (i : ℕ) → sets (sets l i a) (i + length a) b ≡ sets l i (a ++ b)
 sets_append [] b l i = ap (λ (k : ℕ). sets l k b) (add-zero i)
@@ -82,7 +82,11 @@ module _ (bytes before out : List ℕ) (at i : ℕ) where
   hex_done h e =
       record { ends = omega (arith, length_hex bytes); bytes = e ∙ ap (λ (l : List ℕ). overlay at (hex l) before) (take_all i bytes h) }
 
--- the last field of some bytes
+-- the last field
+pub last_none : (shown : List ℕ) → length shown ≡ 0 → dash ≡ last_field shown
+last_none [] e = refl
+last_none (x ∷ xs) e = absurd (omega arith)
+
 pub last_some : (shown : List ℕ) → (length shown ≡ 0 → ⊥) → hex shown ≡ last_field shown
 last_some [] n = absurd (n refl)
 last_some (x ∷ xs) n = refl
