@@ -13,7 +13,8 @@ use borrow.Author.Tests.{lt-ltb, le-ltb, eq-eqb}
 use Rattle.rules.specs.Bytes.{all_from, all_of, same_bytes, zeros}
 use Rattle.rules.specs.Sizes.{domain_in, page_in, frame_in, page_number, max_domains, max_pages, max_contexts, max_frames}
 use Rattle.rules.specs.Asked.{Agreed}
-use Rattle.rules.specs.Records.{empty_domain, free_context, public_page, open_frame, zero_registers, life_of, activity_of, page_of, place_of}
+use Rattle.rules.specs.Records.{empty_domain, free_context, public_page, open_frame, zero_registers, life_of, activity_of}
+use Rattle.rules.specs.Records.{page_of, place_of}
 use Rattle.rules.specs.Records.{mapping_of, names_of, is_empty, is_free, is_clear_in, names_none, names_page}
 use Rattle.rules.specs.Sound.{domain_sound, begun, activity_sound, context_sound, saved_sound, mapping_sound, wear_sound, place_sound}
 use Rattle.rules.specs.Sound.{untouched, owned_sound, page_sound, names_sound, frame_sound, whole, sound}
@@ -86,7 +87,8 @@ owned_public s t d v =
 -- from the tests
 module _ (s : Setup) (x : State) (ok : T (sound s x)) where
   pub sound_facts : Sound s x
-  unfolding sound domain_sound context_sound saved_sound page_sound frame_sound activity_sound untouched owned_sound names_sound same_bytes zeros
+  unfolding sound domain_sound context_sound saved_sound page_sound frame_sound activity_sound untouched owned_sound names_sound
+      same_bytes zeros
   sound_facts =
       let e = each _ ok in
       let t = x.tables in
