@@ -38,12 +38,6 @@ lengths_first true true false true true false d = refl
 lengths_first true true false true false t d = refl
 lengths_first true true false false f t d = refl
 
--- tests made in pairs, after a first that holds
-pub in_pairs : (a b f t : Bool) {i n m r : Bool} → i ≡ true → n ≡ all_of (f ∷ t ∷ []) → m ≡ all_of (b ∷ n ∷ []) → r ≡ all_of (a ∷ m ∷ [])
-    → r ≡ all_of (i ∷ a ∷ b ∷ f ∷ t ∷ [])
-unfolding all_of
-in_pairs a b f t first p q e = rw (first, e, q, p) (simp and-true)
-
 -- the supply's length is tested last
 supply_last : (a b p : Bool) → a && (b && (p && true)) ≡ (a && b) && p
 supply_last true true p = and-true p
@@ -63,6 +57,14 @@ module _ (s : Setup) (x y frames store : List ℕ) where
   acceptable_by supply =
       supply_last (readable s x y) (lookable s (machine (state_in s x y) frames store)) (supply_right s supply)
 
+  pub lent_by : lent_right s x y frames store
+      ≡ setup_in_range s
+      && (eqb (length x) image_words
+      && (eqb (length y) (8 * s.contexts)
+      && (eqb (length frames) (s.frames * s.size) && eqb (length store) (s.domains * s.pages * s.size))))
+  unfolding lent_right frames_right store_right all_of
+  lent_by = rw and-true
+
   -- where the lengths are right, the tables are as long as an image, and the setup is in range
   pub long_words : lent_right s x y frames store ≡ true → (length x ≡ image_words) × (setup_in_range s ≡ true)
   unfolding lent_right
@@ -70,7 +72,6 @@ module _ (s : Setup) (x y frames store : List ℕ) where
 
 -- the products of sizes that are in range are small
 pub record Products (s : Setup) : Type 0 where
-  pub saved : 8 * s.contexts ≤ 8 * max_contexts
   pub frames : s.frames * s.size ≤ max_frames * max_size
   pub entries : s.domains * s.pages ≤ max_domains * max_pages
   pub store : s.domains * s.pages * s.size ≤ max_domains * max_pages * max_size
@@ -80,7 +81,6 @@ of : {s : Setup} → Limited s → Products s
 of {s} l =
     let entries : s.domains * s.pages ≤ max_domains * max_pages = mul-le-mul l.domains l.pages in
     record {
-      saved = omega arith;
       frames = mul-le-mul l.frames l.size;
       entries = entries;
       store = mul-le-mul entries l.size;
@@ -90,12 +90,22 @@ of {s} l =
 pub products : (s : Setup) → setup_in_range s ≡ true → Products s
 products s e = of (limited s (passed (setup_in_range s) e))
 
+pub contexts_few : (s : Setup) → setup_in_range s ≡ true → s.contexts ≤ max_contexts
+contexts_few s e = (limited s (passed (setup_in_range s) e)).contexts
+
 -- two tests that hold together
 pub both_hold : (a b : Bool) → a && b ≡ true → T a × T b
 both_hold true b e = (tt, passed b e)
 both_hold false b e = absurd (let z : ◌≡◌ {A = ℕ} 0 1 = cc in omega arith)
 
+pub lent_products : (s : Setup) (x y frames store : List ℕ) → lent_right s x y frames store ≡ true → Products s
+lent_products s x y frames store e = products s (long_words s x y frames store e).1
+
 pub looked_products : (s : Setup) (x y frames store : List ℕ) → lookable_in s x y frames store ≡ true → Products s
 looked_products s x y frames store e =
     let looked = lookable_facts _ _ (both_hold (readable s x y) _ e).1 in
     of looked.sizes
+
+pub ruleset accepted = (acceptable_by, looked_products)
+
+pub ruleset lengths = (lent_by, contexts_few, products)

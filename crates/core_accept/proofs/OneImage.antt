@@ -1,5 +1,6 @@
 -- A sound state, whose saved registers are eight words each, has one image: the words of its tables and registers are readable, and hold
 -- that state again.
+use Rattle.std.specs.Prelude.{Option, Some, None}
 use mathlib.Core.Path.{◌≡◌}
 use mathlib.Core.Bool.{Bool, true, false, ◌||◌, cond}
 use Prim.Native.Nat.{ℕ, ◌*◌, ◌/◌, ◌%◌, ◌≤◌, ◌<◌}
@@ -26,11 +27,8 @@ use Rattle.rules.specs.declared.PageRecord.{PageRecord}
 use Rattle.rules.specs.declared.Registers.{Registers}
 use Rattle.rules.specs.declared.Activity.{Activity}
 use Rattle.rules.specs.declared.Activity.TheVariants.{Free, Running, Kept}
-use Rattle.rules.specs.declared.Mapping.{Mapping}
-use Rattle.rules.specs.declared.Mapping.TheVariants.{Unmapped, Mapped}
 use Rattle.rules.specs.declared.Place.{Place}
 use Rattle.rules.specs.declared.Place.TheVariants.{Public, Clear, Sealed}
-use Rattle.rules.specs.declared.Named.TheVariants.{Page}
 use Rattle.core_tables.specs.Words.{Housed}
 use Rattle.core_tables.specs.Image.{max_entries, state_in, image_of, saved_words}
 use Rattle.core_tables.proofs.Images.{tell_canonical}
@@ -55,14 +53,14 @@ module _ (s : Setup) (t : Tables) (sizes : Limited s) where
   unfolding frame_in
   frame_few f h = omega (arith, ltb→lt f.0 s.frames h, sizes.frames)
 
-  mapping_few : (m : Mapping) → T (mapping_sound s m) → (frame_where m).0 < 256
+  mapping_few : (m : Option Gppn) → T (mapping_sound s m) → (frame_where m).0 < 256
   unfolding mapping_sound
-  mapping_few Unmapped h = omega arith
-  mapping_few (Mapped f) h = frame_few f h
+  mapping_few None h = omega arith
+  mapping_few (Some f) h = frame_few f h
 
-  unmapped_few : (m : Mapping) → T (is_unmapped m) → (frame_where m).0 < 256
-  unmapped_few Unmapped h = omega arith
-  unmapped_few (Mapped f) h = absurd h
+  unmapped_few : (m : Option Gppn) → T (is_unmapped m) → (frame_where m).0 < 256
+  unmapped_few None h = omega arith
+  unmapped_few (Some f) h = absurd h
 
   place_few : (d : Asid) (v : Gvpn) (p : Place) → T (place_sound s t d v p) → Housed p
   unfolding place_sound Housed
@@ -82,7 +80,7 @@ module _ (s : Setup) (t : Tables) (sizes : Limited s) where
   page_few true d v r h = let e = each _ h in (mapping_few r.mapping e.0, place_few d v r.place e.1.0)
   page_few false d v r h = let e = each _ h in (unmapped_few r.mapping e.0, public_few r.place e.1.0)
 
-  named_few : (b : Bool) (f : Gppn) (d : Asid) (v : Gvpn) → T (cond b (names_sound s t f (Page d v)) (names_none (Page d v)))
+  named_few : (b : Bool) (f : Gppn) (d : Asid) (v : Gvpn) → T (cond b (names_sound s t f (Some (d, v))) (names_none (Some (d, v))))
       → NamedFits s.pages d v
   unfolding names_sound domain_in page_in
   named_few true f d v h =

@@ -5,24 +5,22 @@
 ghost use Rattle.std.specs.Prelude.{◌≡◌};
 ghost use Rattle.core_accept.specs.Acceptable.{lent_right, startable_in, lookable_in, acceptable_in};
 
-use rules::{Setup, both};
+use rules::Setup;
 
 // Whether the setup is in range, and as many words and bytes are lent as it asks.
+#[tactic(auto, using(crate::proofs::Handed::lengths))]
 fn lent(setup: Setup, tables: &[u16], saved: &[u64], frames: &[u8], store: &[u8]) -> bool
     ensures { result ≡ lent_right setup tables.now saved.now frames.now store.now }
 {
-    if !setup.in_range() {
-        return false;
-    }
-    let size = setup.size;
-    let registers = saved.len() == 8 * setup.contexts;
-    let frames_right = frames.len() == setup.frames * size;
-    let store_right = store.len() == setup.domains * setup.pages * size;
-    let bytes = both(frames_right, store_right);
-    both(tables.len() == core_tables::WORDS, both(registers, bytes))
+    setup.in_range()
+        && tables.len() == core_tables::WORDS
+        && saved.len() == 8 * setup.contexts
+        && frames.len() == setup.frames * setup.size
+        && store.len() == setup.domains * setup.pages * setup.size
 }
 
 // Whether a start is taken: the setup is in range and all is lent as it asks.
+#[tactic(auto, unfolding(rules::specs::Sizes::supply_right), using(crate::proofs::Handed::lent_products))]
 pub fn startable(
     setup: Setup,
     tables: &[u16],
@@ -33,25 +31,19 @@ pub fn startable(
 ) -> bool
     ensures { result ≡ startable_in setup tables.now saved.now frames.now store.now supply.now }
 {
-    if lent(setup, tables, saved, frames, store) {
-        supply.len() == setup.signatures * setup.size
-    } else {
-        false
-    }
+    lent(setup, tables, saved, frames, store) && supply.len() == setup.signatures * setup.size
 }
 
 // Whether the inspector may look: all that answer 10 is about, but for the supply, which a look is not lent.
+#[tactic(auto, using(crate::proofs::Handed::lookable_by, crate::proofs::Handed::long_words))]
 pub fn lookable(setup: Setup, tables: &[u16], saved: &[u64], frames: &[u8], store: &[u8]) -> bool
     ensures { result ≡ lookable_in setup tables.now saved.now frames.now store.now }
 {
-    if lent(setup, tables, saved, frames, store) {
-        core_sound::sound(setup, tables)
-    } else {
-        false
-    }
+    lent(setup, tables, saved, frames, store) && core_sound::sound(setup, tables)
 }
 
 // Whether an event is taken at all: all that answer 10 is about.
+#[tactic(auto, unfolding(rules::specs::Sizes::supply_right), using(crate::proofs::Handed::accepted))]
 pub fn acceptable(
     setup: Setup,
     tables: &[u16],
@@ -62,9 +54,5 @@ pub fn acceptable(
 ) -> bool
     ensures { result ≡ acceptable_in setup tables.now saved.now frames.now store.now supply.now }
 {
-    if lookable(setup, tables, saved, frames, store) {
-        supply.len() == setup.signatures * setup.size
-    } else {
-        false
-    }
+    lookable(setup, tables, saved, frames, store) && supply.len() == setup.signatures * setup.size
 }

@@ -15,11 +15,10 @@ use Rattle.rules.proofs.Facts.{Accepted, accepted, each, passes, passed}
 use Rattle.rules.proofs.Granting.{Granted, is_acceptable, is_granted}
 use Rattle.rules.specs.declared.Setup.{Setup}
 use Rattle.core_tables.specs.Image.{image_words, tables_in, Canonical}
-use Rattle.core_tables.specs.Image as image
 use Rattle.core_tables.specs.Tested.{Tested}
 use Rattle.core_tables.proofs.Images.{canonical_image, told_canonical}
 use Rattle.core_tables.proofs.Registers.{saved_image}
-use Rattle.core_answer.specs.Handed.{Handed, left, given_in, machine_in, readable, refuses, leaves, keeps, stepped, ends}
+use Rattle.core_answer.specs.Handed.{Handed, given_in, machine_in, readable, refuses, leaves, keeps, stepped}
 
 -- words that are an image
 pub record Readable (s : Setup) (tables saved : List ℕ) : Type 0 where
@@ -37,14 +36,6 @@ is_readable s x y t =
       saved_long = eqb→eq _ _ e.1.0;
       canonical = told_canonical s.pages x long e.1.1.0;
     }
-
--- what is told of words that are an image
-pub told_ends : (s : Setup) (x y frames store buffer : List ℕ) (number seals unveils : ℕ) → Readable s x y
-    → left (record { number = number; seals = seals; unveils = unveils; used = (tables_in s.pages x).used }) x y frames store
-    buffer
-    ≡ ends s number (image.machine_in s x y frames store seals unveils) buffer
-told_ends s x y frames store buffer number seals unveils r =
-    rw (← canonical_image s.pages x r.tables_long r.canonical, ← saved_image s.contexts y r.saved_long)
 
 not_ten : {n : ℕ} (b : Bool) → cond b n 10 ≡ 0 → (b ≡ true) × (n ≡ 0)
 not_ten true e = (refl, e)

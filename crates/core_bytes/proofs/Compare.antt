@@ -1,14 +1,14 @@
 -- Laws of `same_bytes` for loops that gather differences: bytes are the same where no bit of any differs, and where each
 -- block of them is.
 use mathlib.Core.Path.{◌≡◌, refl, sym, ap, ◌∙◌}
-use mathlib.Core.Bool.{Bool, true, false, ◌&&◌, and-true, and-false, and_assoc}
-use mathlib.Core.List.{List, [], ◌∷◌}
-use Prim.Native.Nat.{ℕ, zero, suc, ◌+◌, ◌-◌, ◌≤◌, ◌<◌}
-use native.Mathlib.Nat.{not-suc-le-zero, le_of_suc-le-suc}
-use native.Mathlib.Numerals.{add-one}
+use mathlib.Core.Bool.{Bool, true, false, ◌&&◌, and-false, and_assoc}
+use mathlib.Core.List.{List, [], ◌∷◌, ◌++◌}
+use Rattle.std.specs.Simd.{first_chunks}
+use Prim.Native.Nat.{ℕ, zero, suc, ◌+◌, ◌*◌}
+use native.Mathlib.Nat.{zero-mul}
 use native.Mathlib.Omega.{arith}
-use lib.ListN.{length, take, drop, get_or, length-drop}
-use lib.Seq.{take_all, take-nil, drop-nil, drop-drop}
+use lib.ListN.{length, drop, take-append-drop}
+use lib.Seq.{drop-drop}
 use lib.Dec.{eqb}
 use lib.Bits.{bit_or, bit_xor, xor_self, or_add_and, xor_add_and, and_le_l, and_le_r}
 use borrow.Author.Tests.{eq-eqb, ne_eqb, eqb-true, eqb-false}
@@ -42,56 +42,46 @@ same_length (x ∷ xs) [] h = refl
 same_length (x ∷ xs) (y ∷ ys) h =
     ap (λ (b : Bool). eqb x y && b) (same_length xs ys (λ e. h (ap suc e))) ∙ and-false (eqb x y)
 
--- of one byte more
-same_suc : (a b : List ℕ) (i : ℕ) → i < length a → i < length b
-    → same_bytes (take (suc i) a) (take (suc i) b) ≡ same_bytes (take i a) (take i b) && eqb (get_or a i 0) (get_or b i 0)
+-- of bytes with others behind them
+same_append : (a b s t : List ℕ) → length a ≡ length b → same_bytes (a ++ s) (b ++ t) ≡ same_bytes a b && same_bytes s t
 unfolding same_bytes
-same_suc [] b i h k = absurd (not-suc-le-zero h)
-same_suc (x ∷ xs) [] i h k = absurd (not-suc-le-zero k)
-same_suc (x ∷ xs) (y ∷ ys) zero h k = and-true (eqb x y)
-same_suc (x ∷ xs) (y ∷ ys) (suc i) h k =
-    ap (λ (b : Bool). eqb x y && b) (same_suc xs ys i (le_of_suc-le-suc h) (le_of_suc-le-suc k))
-    ∙ sym (and_assoc (eqb x y) (same_bytes (take i xs) (take i ys)) (eqb (get_or xs i 0) (get_or ys i 0)))
+same_append [] [] s t e = refl
+same_append [] (y ∷ ys) s t e = let never : ⊥ = omega arith in absurd never
+same_append (x ∷ xs) [] s t e = let never : ⊥ = omega arith in absurd never
+same_append (x ∷ xs) (y ∷ ys) s t e =
+    ap (λ (b : Bool). eqb x y && b) (same_append xs ys s t (omega arith)) ∙ sym (and_assoc (eqb x y) _ _)
 
--- of the bytes to n and of those from n on
-same_split : (a b : List ℕ) (n : ℕ) → length a ≡ length b
-    → same_bytes a b ≡ same_bytes (take n a) (take n b) && same_bytes (drop n a) (drop n b)
+-- a turn of the loop over bytes: d has gathered the differences of those before x and y
+pub same_next : (d x y : ℕ) {a b xs ys : List ℕ} → a ≡ x ∷ xs → b ≡ y ∷ ys → length a ≡ length b
+    → (length xs ≡ length ys) × (eqb (bit_or d (bit_xor x y)) 0 && same_bytes xs ys ≡ eqb d 0 && same_bytes a b)
 unfolding same_bytes
-same_split [] [] n e = rw (take-nil n, drop-nil n)
-same_split [] (y ∷ ys) n e = let never : ⊥ = omega arith in absurd never
-same_split (x ∷ xs) [] n e = let never : ⊥ = omega arith in absurd never
-same_split (x ∷ xs) (y ∷ ys) zero e = refl
-same_split (x ∷ xs) (y ∷ ys) (suc n) e =
-    ap (λ (b : Bool). eqb x y && b) (same_split xs ys n (omega arith)) ∙ sym (and_assoc (eqb x y) _ _)
+same_next d x y {xs = xs} {ys = ys} p q e =
+    let long : suc (length xs) ≡ suc (length ys) = sym (ap length p) ∙ e ∙ ap length q in
+    (omega arith, rw (p, q, or_none, xor_none) (and_assoc (eqb d 0) (eqb x y) (same_bytes xs ys)))
 
--- a turn of the loop over bytes: d has gathered the differences of the first i
-pub same_more : (a b : List ℕ) (i d : ℕ) → i < length a → length a ≡ length b
-    → eqb d 0 ≡ same_bytes (take i a) (take i b)
-    → eqb (bit_or d (bit_xor (get_or a i 0) (get_or b i 0))) 0 ≡ same_bytes (take (i + 1) a) (take (i + 1) b)
-same_more a b i d h e p = rw (add-one, same_suc a b i h (omega arith), or_none, xor_none, p)
+-- blocks and what is left over behind them, as one list; bytes are the blocks that they are cut into
+abbrev pub joined : List (List ℕ) → List ℕ → List ℕ
+joined [] rest = rest
+joined (block ∷ blocks) rest = block ++ joined blocks rest
 
--- a turn of the loop over blocks: what is before at is the same, and d tells of the bytes from at to end
-module _ (a b : List ℕ) (at end d : ℕ) (long : length a ≡ length b) (up : at ≤ end)
-    (before : same_bytes (drop at a) (drop at b) ≡ same_bytes a b)
-    (block : eqb d 0 ≡ same_bytes (take (end - at) (drop at a)) (take (end - at) (drop at b))) where
-  split : same_bytes a b ≡ eqb d 0 && same_bytes (drop end a) (drop end b)
-  split =
-      let e : at + (end - at) ≡ end = omega arith in
-      sym before
-      ∙ same_split (drop at a) (drop at b) (end - at) (simp (length-drop, long))
-      ∙ rw (← block, drop-drop (end - at) at a, drop-drop (end - at) at b, e)
+joined_blocks : (n k : ℕ) (bytes : List ℕ) → joined (first_chunks n k bytes) (drop (k * n) bytes) ≡ bytes
+joined_blocks n zero bytes = ap (λ (m : ℕ). drop m bytes) (zero-mul n)
+joined_blocks n (suc k) bytes =
+    let more : suc k * n ≡ n + k * n = omega arith in
+    rw (more, ← drop-drop (k * n) n bytes, joined_blocks n k (drop n bytes)) (take-append-drop n bytes)
 
-  pub block_same : d ≡ 0 → same_bytes (drop end a) (drop end b) ≡ same_bytes a b
-  block_same z = sym (split ∙ ap (λ (t : Bool). t && same_bytes (drop end a) (drop end b)) (eq-eqb d 0 z))
+pub joined_all : (n k : ℕ) (bytes : List ℕ) {xs : List (List ℕ)} {x : List ℕ}
+    → xs ≡ first_chunks n k bytes → x ≡ drop (k * n) bytes → joined xs x ≡ bytes
+joined_all n k bytes e f = rw (e, f) (joined_blocks n k bytes)
 
-  pub block_differs : (d ≡ 0 → ⊥) → false ≡ same_bytes a b
-  block_differs n = sym (split ∙ ap (λ (t : Bool). t && same_bytes (drop end a) (drop end b)) (ne_eqb d 0 n))
+-- a turn of the loop over blocks: d tells of the blocks p and q
+module _ (d : ℕ) {p q : List ℕ} (x y : List ℕ) {a b xs ys : List (List ℕ)} (first : a ≡ p ∷ xs) (second : b ≡ q ∷ ys)
+    (block : eqb d 0 ≡ same_bytes p q) (long : length p ≡ length q) where
+  split : same_bytes (joined a x) (joined b y) ≡ eqb d 0 && same_bytes (joined xs x) (joined ys y)
+  split = rw (first, second, block) (same_append p q (joined xs x) (joined ys y) long)
 
-  pub block_last : end ≡ length a → eqb d 0 ≡ same_bytes a b
-  block_last z =
-      block
-      ∙ rw (
-        take_all (end - at) (drop at a) (rw length-drop (omega arith)),
-        take_all (end - at) (drop at b) (rw length-drop (omega arith)),
-      )
-      before
+  pub block_same : d ≡ 0 → same_bytes (joined xs x) (joined ys y) ≡ same_bytes (joined a x) (joined b y)
+  block_same z = sym (split ∙ ap (λ (t : Bool). t && same_bytes (joined xs x) (joined ys y)) (eq-eqb d 0 z))
+
+  pub block_differs : (d ≡ 0 → ⊥) → false ≡ same_bytes (joined a x) (joined b y)
+  block_differs n = sym (split ∙ ap (λ (t : Bool). t && same_bytes (joined xs x) (joined ys y)) (ne_eqb d 0 n))

@@ -4,9 +4,6 @@
 
 ghost use Rattle.std.specs.Prelude.{◌≡◌, ◌+◌, ◌*◌, ◌≤◌, ◌<◌, length, take, drop, eqb};
 ghost use Rattle.rules.specs.Bytes.{part, with_part, overlay, zeros, same_bytes};
-ghost use Rattle.rules.specs.Sizes.{max_size};
-
-use rules::Setup;
 
 // The lengths of the blocks in which bytes are compared.
 const SMALL: usize = 16;
@@ -15,54 +12,26 @@ const MIDDLE: usize = 64;
 
 const LARGE: usize = 256;
 
-// Every byte of dst from src, which is as long: in pieces of the largest page's length, so that a page is one piece.
+// Every byte of dst from src, which is as long.
 pub fn copy(dst: &mut [u8], src: &[u8])
     requires { length src.now ≡ length dst.old }
     ensures { dst.new ≡ src.now }
 {
-    let count = src.len();
-    let mut at = 0;
-    while Setup::MAX_SIZE < count - at {
-        let end = at + Setup::MAX_SIZE;
-        copy_piece(&mut dst[at..end], &src[at..end]);
-        at = end;
-    }
-    copy_piece(&mut dst[at..count], &src[at..count]);
+    dst.copy_from_slice(src);
 }
 
-// The same of one piece. The bytes go through an array: the compiler sees that it overlaps neither slice, and makes one
-// call of memmove of the two loops. It does not see that of dst and src, and would move 16 bytes at a time.
-fn copy_piece(dst: &mut [u8], src: &[u8])
-    requires { (length src.now ≡ length dst.old) × (length src.now ≤ max_size) }
-    ensures { dst.new ≡ src.now }
-{
-    let mut held = [0u8; Setup::MAX_SIZE];
-    let count = src.len();
-    copy_each(&mut held[0..count], src);
-    copy_each(dst, &held[0..count]);
-}
-
-// The same, byte by byte.
-fn copy_each(dst: &mut [u8], src: &[u8])
-    requires { length src.now ≡ length dst.old }
-    ensures { dst.new ≡ src.now }
-{
-    for i in 0..src.len() {
-        dst[i] = src[i];
-    }
-}
-
-// Every byte of dst 0.
+// Every byte of dst 0. No `fill(0)`: it writes the last byte apart, and takes 1.2 to 2 times as long at 16 to 1,024 bytes.
+#[tactic(auto, unfolding(rules::specs::Bytes::zeros))]
 pub fn zero(dst: &mut [u8])
     ensures { dst.new ≡ zeros (length dst.old) }
 {
-    for i in 0..dst.len() {
-        dst[i] = 0;
+    for byte in dst {
+        *byte = 0;
     }
 }
 
 // Whether a and b hold the same bytes. Few bytes are compared in small blocks, so that none are left over: a page's length
-// is a multiple of 16.
+// is a multiple of 16. No `a == b`: it takes 1.4 times as long at 4,096 bytes, and 1.1 to 1.6 times at fewer.
 pub fn same(a: &[u8], b: &[u8]) -> bool
     ensures { result ≡ same_bytes a.now b.now }
 {
@@ -71,40 +40,40 @@ pub fn same(a: &[u8], b: &[u8]) -> bool
         return false;
     }
     if count < MIDDLE {
-        return same_blocks(a, b, SMALL);
+        return same_blocks::<SMALL>(a, b);
     }
     if count < LARGE {
-        return same_blocks(a, b, MIDDLE);
+        return same_blocks::<MIDDLE>(a, b);
     }
-    same_blocks(a, b, LARGE)
+    same_blocks::<LARGE>(a, b)
 }
 
-// The same of a and b of one length: block by block, up to the first that differs, and then what is left over.
-fn same_blocks(a: &[u8], b: &[u8], block: usize) -> bool
-    requires { (length a.now ≡ length b.now) × (0 < block) }
+// The same of a and b of one length: block by block, up to the first that differs, and then what is left over. That b is
+// cut to the length of a tells the compiler that they are of one length.
+fn same_blocks<const N: usize>(a: &[u8], b: &[u8]) -> bool
+    requires { (length a.now ≡ length b.now) × (0 < N) × (N ≤ 256) }
     ensures { result ≡ same_bytes a.now b.now }
 {
-    let count = a.len();
-    let mut at = 0;
-    while block <= count - at {
-        let end = at + block;
-        if differing(&a[at..end], &b[at..end]) != 0 {
+    let (xs, x) = a.as_chunks::<N>();
+    let (ys, y) = b[..a.len()].as_chunks::<N>();
+    for (p, q) in xs.iter().zip(ys) {
+        if differing(p, q) != 0 {
             return false;
         }
-        at = end;
     }
-    differing(&a[at..count], &b[at..count]) == 0
+    differing(x, y) == 0
 }
 
 // The bits in which a byte of a differs from that of b, of all bytes in one. It goes to the end whatever it meets, since
 // the compiler vectorises no loop that tests each byte.
+#[tactic(auto, unfolding(rules::specs::Bytes::same_bytes))]
 fn differing(a: &[u8], b: &[u8]) -> u8
     requires { length a.now ≡ length b.now }
     ensures { eqb result 0 ≡ same_bytes a.now b.now }
 {
     let mut bits: u8 = 0;
-    for i in 0..a.len() {
-        bits = bits | (a[i] ^ b[i]);
+    for (x, y) in a.iter().zip(b) {
+        bits |= x ^ y;
     }
     bits
 }

@@ -2,15 +2,15 @@
 // used, a line says which of frames, store, answer buffer, and tables with saved registers are as before (of a start: frames, store, and
 // whether the words of the tables and saved registers are all fresh); of a look it has the number, how many bytes are handed back, and
 // the bytes.
+//
+// The cases stand in statics: a function that goes over a const makes the table itself, and its check took four times as long.
 #![tactic(auto)]
 
 mod bounds;
-mod calls;
 mod lengths;
 mod lent;
 mod lines;
 mod looks;
-mod parts;
 mod unsound;
 mod world;
 

@@ -1,14 +1,13 @@
 -- Laws of a table whose entries are changed one after the other, over the element: after i turns of the loop its first i entries are
 -- changed. And of one entry more that is set in a row.
-use mathlib.Core.Path.{◌≡◌, refl, ap, ◌∙◌}
+use mathlib.Core.Path.{◌≡◌, refl, sym, ap, ◌∙◌}
 use mathlib.Core.List.{List, [], ◌∷◌, map}
-use Prim.Native.Nat.{ℕ, zero, suc, ◌+◌, ◌*◌, ◌≤◌, ◌<◌}
-use native.Mathlib.Nat.{mul-le-mul, mul-le-mul_right, add-zero, add-suc, suc-add, zero-add, not-suc-le-zero, le_of_suc-le-suc}
+use Prim.Native.Nat.{ℕ, zero, suc, ◌+◌, ◌-◌, ◌≤◌, ◌<◌}
+use native.Mathlib.Nat.{add-zero, add-suc, suc-add, zero-add, not-suc-le-zero, le_of_suc-le-suc}
 use native.Mathlib.Numerals.{add-one}
 use native.Mathlib.Omega.{arith}
 use lib.ListN.{length, get_or, set, replicate}
-use lib.Seq.{sets}
-use Rattle.rules.specs.Sizes.{max_domains, max_pages}
+use lib.Seq.{sets, set-get_or}
 use Rattle.rules.specs.Bytes.{map_from}
 
 module _ {A : Type 0} (f : ℕ → A → A) where
@@ -39,6 +38,11 @@ module _ {A : Type 0} (f : ℕ → A → A) where
   pub turn : (z : A) (i : ℕ) (l n : List A) {x : A} → i < length l → n ≡ map_up_to 0 i l → x ≡ f i (get_or n i z)
       → set n i x ≡ map_up_to 0 (i + 1) l
   turn z i l n h e q = rw (q, e, up_to_next z 0 i l) (up_to_more z i l h)
+
+  -- or, where its change is none, stays
+  pub stay : (z : A) (i : ℕ) (l n : List A) → i < length l → n ≡ map_up_to 0 i l → get_or n i z ≡ f i (get_or n i z)
+      → n ≡ map_up_to 0 (i + 1) l
+  stay z i l n h e q = sym (set-get_or n i z) ∙ turn z i l n h e q
 
   pub up_to_all : (k i : ℕ) (l : List A) → length l ≤ i → map_up_to k i l ≡ map_from f k l
   unfolding map_up_to map_from
@@ -74,10 +78,11 @@ sets_suc : {A : Type 0} (a : A) (l : List A) (at i : ℕ) → set (sets l at (re
 sets_suc a l at zero = rw add-zero
 sets_suc a l at (suc i) = rw (add-suc, ← suc-add) (sets_suc a (set l at a) (suc at) i)
 
-pub sets_more : {A : Type 0} (a : A) (l : List A) (at i : ℕ) → set (sets l at (replicate i a)) (at + i) a ≡ sets l at (replicate (i + 1) a)
-sets_more a l at i = rw add-one (sets_suc a l at i)
-
--- a domain's pages end within the table
-pub slots_fit : (d domains pages : ℕ) → d < domains → domains ≤ max_domains → pages ≤ max_pages
-    → d * pages + pages ≤ max_domains * max_pages
-slots_fit d domains pages h few small = omega (arith, mul-le-mul_right pages h, mul-le-mul few small)
+pub sets_more : {A : Type 0} (a : A) (l : List A) (at i : ℕ) → at ≤ i
+    → set (sets l at (replicate (i - at) a)) i a ≡ sets l at (replicate (i + 1 - at) a)
+sets_more a l at i h =
+    let here : i ≡ at + (i - at) = omega arith in
+    let next : suc (i - at) ≡ i + 1 - at = omega arith in
+    ap (λ (n : ℕ). set (sets l at (replicate (i - at) a)) n a) here
+    ∙ sets_suc a l at (i - at)
+    ∙ ap (λ (n : ℕ). sets l at (replicate n a)) next

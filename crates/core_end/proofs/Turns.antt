@@ -1,31 +1,28 @@
 -- A turn of a loop over the image: the records before are changed, and so is the next.
+use Rattle.std.specs.Prelude.{Option, Some, None}
 use mathlib.Core.Path.{◌≡◌, refl, sym, ap, subst, ◌∙◌}
 use mathlib.Core.List.{List, map}
 use Prim.Native.Nat.{ℕ, ◌+◌, ◌*◌, ◌-◌, ◌/◌, ◌%◌, ◌≤◌, ◌<◌}
 use native.Mathlib.Nat.{mod-lt}
 use lib.Dec.{eqb}
 use native.Mathlib.Omega.{arith}
-use lib.ListN.{get_or, set, replicate}
+use lib.ListN.{length, get_or, set, replicate}
 use lib.Seq.{sets}
 use Rattle.rules.specs.Bytes.{map_from, with_part, zeros}
 use Rattle.rules.specs.Events.{ended_tables, zero_named, ended}
+use Rattle.rules.specs.declared.Gvpn.{Gvpn}
 use Rattle.rules.specs.declared.Setup.{Setup}
 use Rattle.rules.specs.declared.Life.TheVariants.{Empty}
 use Rattle.core_seal.specs.Under.{Leaves}
 use Rattle.rules.specs.Sizes.{max_contexts, max_frames}
 use Rattle.rules.specs.Records.{machine, public_page, free_context, open_frame, zero_registers}
 use Rattle.rules.specs.declared.Tables.{Tables}
-use Rattle.rules.specs.declared.Registers.{Registers}
-use Rattle.rules.specs.declared.ContextRecord.{ContextRecord}
 use Rattle.rules.specs.declared.FrameRecord.{FrameRecord}
-use Rattle.rules.specs.declared.Activity.{Activity}
-use Rattle.rules.specs.declared.Named.{Named}
+use Rattle.rules.specs.declared.Activity.TheVariants.{Free}
 use mathlib.Core.Bool.{Bool, true, false, cond}
-use lib.Seq.{set-get_or}
 use Rattle.rules.specs.declared.Asid.{Asid}
 use Rattle.rules.specs.Records.{is_in}
 use Rattle.rules.specs.Records as Records
-use Rattle.rules.specs.declared.Named.TheVariants.{Nothing, Page}
 use Rattle.core_tables.specs.Words.{names_in, NamesFit}
 use Rattle.core_tables.specs.Image.{frames_at, word_at, tables_in, saved_in, state_in}
 use Rattle.core_tables.specs.Put.{Put, set_page, set_names, set_activity, set_life}
@@ -33,67 +30,87 @@ use Rattle.core_tables.proofs.Puts.{then}
 use Rattle.core_tables.proofs.Reading.{long, frame_there}
 use Rattle.core_tables.proofs.Registers.{length_saved, saved_past}
 use Rattle.core_end.specs.Ending.{freed_of, opened_of, cleared_of, with_contexts, with_pages, with_frames}
-use Rattle.core_end.proofs.Laws.{map_up_to, up_to_rest, turn, sets_more}
+use Rattle.core_end.proofs.Laws.{map_up_to, up_to_rest, turn, stay, sets_more}
 
 -- an image holds what it holds
 pub same : (v : ℕ) (x : List ℕ) → Put v x x (tables_in v x)
 same v x = record { tables = refl; canonical = λ c. c }
 
-module _ (v : ℕ) (x y : List ℕ) (i : ℕ) where
-  pub turn_frames : (f : FrameRecord → FrameRecord) (old new : Named) {z : List ℕ} → i < max_frames
-      → Put v x y (with_frames (map_up_to (λ _. f) 0 i (tables_in v x).frames) (tables_in v x))
-      → old ≡ (get_or (tables_in v y).frames i open_frame).names → record { names = new } ≡ f (record { names = old })
-      → Put v y z (set_names i new (tables_in v y))
-      → Put v x z (with_frames (map_up_to (λ _. f) 0 (i + 1) (tables_in v x).frames) (tables_in v x))
-  turn_frames f old new h inv read change put =
-      let at : (tables_in v y).frames ≡ map_up_to (λ _. f) 0 i (tables_in v x).frames = ap (λ (t : Tables). t.frames) inv.tables in
-      let next : set (map_up_to (λ _. f) 0 i (tables_in v x).frames) i (record { names = new })
-      ≡ map_up_to (λ _. f) 0 (i + 1) (tables_in v x).frames =
-      turn (λ _. f) open_frame i (tables_in v x).frames _ (rw (long v x).frames h) refl (rw (read, at) at change) in
-      rw next at (then (set_names i new) inv put)
+module _ (v : ℕ) (x y : List ℕ) (i : ℕ) (d : Asid) {b : Bool} where
+  -- a frame, by whether it names a page of domain d
+  module _ (h : i < max_frames)
+      (inv : Put v x y (with_frames (map_up_to (λ _. opened_of d) 0 i (tables_in v x).frames) (tables_in v x)))
+      (is : b ≡ Records.names_in d (get_or (tables_in v y).frames i open_frame).names) where
+    frames_before : (tables_in v y).frames ≡ map_up_to (λ _. opened_of d) 0 i (tables_in v x).frames
+    frames_before = ap (λ (t : Tables). t.frames) inv.tables
 
-  pub turn_contexts : (f : ContextRecord → ContextRecord) (old new : Activity) {z : List ℕ} → i < max_contexts
-      → Put v x y (with_contexts (map_up_to (λ _. f) 0 i (tables_in v x).contexts) (tables_in v x))
-      → old ≡ (get_or (tables_in v y).contexts i free_context).activity → record { activity = new } ≡ f (record { activity = old })
-      → Put v y z (set_activity i new (tables_in v y))
-      → Put v x z (with_contexts (map_up_to (λ _. f) 0 (i + 1) (tables_in v x).contexts) (tables_in v x))
-  turn_contexts f old new h inv read change put =
-      let at : (tables_in v y).contexts ≡ map_up_to (λ _. f) 0 i (tables_in v x).contexts = ap (λ (t : Tables). t.contexts) inv.tables in
-      let next : set (map_up_to (λ _. f) 0 i (tables_in v x).contexts) i (record { activity = new })
-      ≡ map_up_to (λ _. f) 0 (i + 1) (tables_in v x).contexts =
-      turn (λ _. f) free_context i (tables_in v x).contexts _ (rw (long v x).contexts h) refl (rw (read, at) at change) in
-      rw next at (then (set_activity i new) inv put)
+    frames_listed : i < length (tables_in v x).frames
+    frames_listed = rw (long v x).frames h
 
-  pub turn_pages : (first : ℕ) {z : List ℕ}
-      → Put v x y (with_pages (sets (tables_in v x).pages first (replicate i public_page)) (tables_in v x))
-      → Put v y z (set_page (first + i) public_page (tables_in v y))
-      → Put v x z (with_pages (sets (tables_in v x).pages first (replicate (i + 1) public_page)) (tables_in v x))
-  turn_pages first inv put =
-      rw (sets_more public_page (tables_in v x).pages first i) at (then (set_page (first + i) public_page) inv put)
+    pub frame_opened : {z : List ℕ} → b ≡ true → Put v y z (set_names i None (tables_in v y))
+        → Put v x z (with_frames (map_up_to (λ _. opened_of d) 0 (i + 1) (tables_in v x).frames) (tables_in v x))
+    frame_opened e put =
+        let next : set (tables_in v y).frames i open_frame ≡ map_up_to (λ _. opened_of d) 0 (i + 1) (tables_in v x).frames =
+        turn (λ _. opened_of d) open_frame i (tables_in v x).frames _ frames_listed frames_before (rw (sym is ∙ e) refl) in
+        rw (← frames_before, next) at (then (set_names i None) inv put)
+
+    pub frame_stays : b ≡ false
+        → Put v x y (with_frames (map_up_to (λ _. opened_of d) 0 (i + 1) (tables_in v x).frames) (tables_in v x))
+    frame_stays e =
+        let next : (tables_in v y).frames ≡ map_up_to (λ _. opened_of d) 0 (i + 1) (tables_in v x).frames =
+        stay (λ _. opened_of d) open_frame i (tables_in v x).frames _ frames_listed frames_before (rw (sym is ∙ e) refl) in
+        rw (← frames_before, next) at inv
+
+  -- a context, by whether it is in domain d
+  module _ (h : i < max_contexts)
+      (inv : Put v x y (with_contexts (map_up_to (λ _. freed_of d) 0 i (tables_in v x).contexts) (tables_in v x)))
+      (is : b ≡ is_in d (get_or (tables_in v y).contexts i free_context).activity) where
+    contexts_before : (tables_in v y).contexts ≡ map_up_to (λ _. freed_of d) 0 i (tables_in v x).contexts
+    contexts_before = ap (λ (t : Tables). t.contexts) inv.tables
+
+    contexts_listed : i < length (tables_in v x).contexts
+    contexts_listed = rw (long v x).contexts h
+
+    pub context_freed : {z : List ℕ} → b ≡ true → Put v y z (set_activity i Free (tables_in v y))
+        → Put v x z (with_contexts (map_up_to (λ _. freed_of d) 0 (i + 1) (tables_in v x).contexts) (tables_in v x))
+    context_freed e put =
+        let next : set (tables_in v y).contexts i free_context ≡ map_up_to (λ _. freed_of d) 0 (i + 1) (tables_in v x).contexts =
+        turn (λ _. freed_of d) free_context i (tables_in v x).contexts _ contexts_listed contexts_before (rw (sym is ∙ e) refl) in
+        rw (← contexts_before, next) at (then (set_activity i Free) inv put)
+
+    pub context_stays : b ≡ false
+        → Put v x y (with_contexts (map_up_to (λ _. freed_of d) 0 (i + 1) (tables_in v x).contexts) (tables_in v x))
+    context_stays e =
+        let next : (tables_in v y).contexts ≡ map_up_to (λ _. freed_of d) 0 (i + 1) (tables_in v x).contexts =
+        stay (λ _. freed_of d) free_context i (tables_in v x).contexts _ contexts_listed contexts_before (rw (sym is ∙ e) refl) in
+        rw (← contexts_before, next) at inv
+
+-- page i becomes Public, and those before it from the first on are
+pub turn_pages : (v : ℕ) (x y : List ℕ) (first i : ℕ) {z : List ℕ} → first ≤ i
+    → Put v x y (with_pages (sets (tables_in v x).pages first (replicate (i - first) public_page)) (tables_in v x))
+    → Put v y z (set_page i public_page (tables_in v y))
+    → Put v x z (with_pages (sets (tables_in v x).pages first (replicate (i + 1 - first) public_page)) (tables_in v x))
+turn_pages v x y first i h inv put =
+    let next : set (sets (tables_in v x).pages first (replicate (i - first) public_page)) i public_page
+    ≡ sets (tables_in v x).pages first (replicate (i + 1 - first) public_page) =
+    sets_more public_page (tables_in v x).pages first i h in
+    rw next at (then (set_page i public_page) inv put)
 
 -- saved registers of n contexts, x being the tables' words
-module _ (n v : ℕ) (d : Asid) (x y z : List ℕ) (i : ℕ) (few : n ≤ max_contexts) (h : i < n) where
-  abbrev cleared : ℕ → Registers → Registers
-  cleared = cleared_of d (tables_in v x).contexts
+module _ (n v : ℕ) (d : Asid) (x y z : List ℕ) (i : ℕ) {b : Bool} (few : n ≤ max_contexts) (h : i < n)
+    (inv : saved_in n z ≡ map_up_to (cleared_of d (tables_in v x).contexts) 0 i (saved_in n y))
+    (is : b ≡ is_in d (get_or (tables_in v x).contexts i free_context).activity) where
+  saved_listed : i < length (saved_in n y)
+  saved_listed = rw (length_saved n y few) (omega arith)
 
-  pub turn_saved : (z' : List ℕ) → saved_in n z ≡ map_up_to cleared 0 i (saved_in n y)
-      → saved_in n z' ≡ set (saved_in n z) i (cleared i (get_or (saved_in n z) i zero_registers))
-      → saved_in n z' ≡ map_up_to cleared 0 (i + 1) (saved_in n y)
-  turn_saved z' inv put =
-      put ∙ turn cleared zero_registers i (saved_in n y) (saved_in n z) (rw (length_saved n y few) (omega arith)) inv refl
+  pub saved_cleared : (z' : List ℕ) → b ≡ true → saved_in n z' ≡ set (saved_in n z) i zero_registers
+      → saved_in n z' ≡ map_up_to (cleared_of d (tables_in v x).contexts) 0 (i + 1) (saved_in n y)
+  saved_cleared z' e put =
+      put ∙ turn (cleared_of d (tables_in v x).contexts) zero_registers i (saved_in n y) _ saved_listed inv (rw (sym is ∙ e) refl)
 
-module _ (n v : ℕ) (d : Asid) (x y : List ℕ) (i : ℕ) {a : Activity} {b : Bool}
-    (ea : a ≡ (get_or (tables_in v x).contexts i free_context).activity) (eb : b ≡ is_in d a) where
-  is : b ≡ is_in d (get_or (tables_in v x).contexts i free_context).activity
-  is = rw ea at eb
-
-  pub cleared_one : (y' : List ℕ) → b ≡ true → saved_in n y' ≡ set (saved_in n y) i zero_registers
-      → saved_in n y' ≡ set (saved_in n y) i (cleared_of d (tables_in v x).contexts i (get_or (saved_in n y) i zero_registers))
-  cleared_one y' e put = rw (sym is ∙ e) put
-
-  pub not_cleared : b ≡ false
-      → saved_in n y ≡ set (saved_in n y) i (cleared_of d (tables_in v x).contexts i (get_or (saved_in n y) i zero_registers))
-  not_cleared e = rw (sym is ∙ e) (sym (set-get_or (saved_in n y) i zero_registers))
+  pub saved_stays : b ≡ false → saved_in n z ≡ map_up_to (cleared_of d (tables_in v x).contexts) 0 (i + 1) (saved_in n y)
+  saved_stays e =
+      stay (cleared_of d (tables_in v x).contexts) zero_registers i (saved_in n y) _ saved_listed inv (rw (sym is ∙ e) refl)
 
 either : {A : Type 0} (b : Bool) (a : A) → cond b a a ≡ a
 either true a = refl
@@ -115,26 +132,18 @@ names_fit : (v w : ℕ) → 1 ≤ v → NamesFit v (names_in v w)
 unfolding names_in NamesFit
 names_fit v w some = by (eqb w 0)
   where
-    by : (b : Bool) → NamesFit v (cond b Nothing (Page (record { 0 = (w - 1) / v % 256 }) (record { 0 = (w - 1) % v })))
+    by : (b : Bool) → NamesFit v (cond b None (Some (record { 0 = (w - 1) / v % 256 }, record { 0 = (w - 1) % v })))
     by true = tt
     by false = mod-lt (w - 1) {m = v} some
 
 -- what frame i names, of an image
 module _ (v : ℕ) (y : List ℕ) (i : ℕ) (some : 1 ≤ v) (h : i < max_frames) where
-  abbrev named : Named
+  abbrev named : Option (Asid × Gvpn)
   named = (get_or (tables_in v y).frames i open_frame).names
 
   pub named_fits : NamesFit v named
   named_fits =
       subst (NamesFit v) (sym (ap (λ (r : FrameRecord). r.names) (frame_there v y i h))) (names_fit v (word_at y (frames_at + i)) some)
-
-  module _ (d : Asid) {b : Bool} (e : b ≡ Records.names_in d named) where
-    pub opened_one : {z : List ℕ} → b ≡ true → Put v y z (set_names i Nothing (tables_in v y))
-        → Put v y z (set_names i (opened_of d (get_or (tables_in v y).frames i open_frame)).names (tables_in v y))
-    opened_one q put = rw (sym e ∙ q) put
-
-    pub not_opened : b ≡ false → Put v y y (set_names i (opened_of d (get_or (tables_in v y).frames i open_frame)).names (tables_in v y))
-    not_opened q = rw (sym e ∙ q, set-get_or (tables_in v y).frames i open_frame) (same v y)
 
 -- all of it; the tables' words are x, b, c, e, f in turn, the saved registers' y and z
 pub all_ended : (s : Setup) (d : Asid) (frames store : List ℕ) (x y z : List ℕ) {b c e f frames' store' : List ℕ}

@@ -1,4 +1,3 @@
 -- What the entry points leave, and that their promises allow one answer.
-pub mod Starts
 pub mod Steps
 pub mod OneAnswer

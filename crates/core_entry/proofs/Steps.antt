@@ -5,12 +5,15 @@ use native.Mathlib.Omega.{arith}
 use Rattle.rules.specs.Events.{row}
 use Rattle.rules.specs.Answers.{check, first_of, checks}
 use Rattle.rules.proofs.Facts.{accepted}
+use Rattle.rules.specs.Refusals.{number_of}
+use Rattle.rules.specs.declared.Refusal.{Refusal}
 use Rattle.core_tables.specs.Image.{tables_in}
 use Rattle.core_tables.specs.Tested.{Tested}
 use Rattle.core_answer.specs.Handed.{Handed, Left, given_in, machine_in, readable, refuses, stepped, keeps}
 use Rattle.core_answer.proofs.Laws.{is_readable, refuses_first, refused_leaves}
 use Rattle.core_accept.specs.Acceptable.{acceptable_in}
 use Rattle.core_accept.proofs.Handed.{both_hold}
+use Rattle.core_refuse.proofs.Orders.{numbered}
 
 abbrev acceptable_here : Handed → Bool
 acceptable_here h = acceptable_in h.setup h.tables h.saved h.frames h.store h.supply
@@ -46,5 +49,5 @@ module _ (h : Handed) where
     unfolding first_of check
     later e = refuses_first h ∙ rw (sym is ∙ so, e)
 
-    pub refused_by : {n : ℕ} {l : Left} → n ≡ later_checks h → (n ≡ 0 → ⊥) → l ≡ keeps n h → l ≡ stepped h
-    refused_by {n} e some q = q ∙ sym (refused_leaves h n some (later e))
+    pub refused_by : (r : Refusal) {l : Left} → number_of r ≡ later_checks h → l ≡ keeps (number_of r) h → l ≡ stepped h
+    refused_by r e q = q ∙ sym (refused_leaves h _ (numbered r) (later e))

@@ -1,5 +1,5 @@
 -- Document 01, "Sizes": what a start leaves, with every lent word and byte in it. The words are all zero, whether it is taken or refused,
--- which is the image of fresh tables (proofs/Starts.antt); frames and store are zero, or, refused with 10, as they were.
+-- which is the image of fresh tables (theorem_code/proofs/Fresh.antt); frames and store are zero, or, refused with 10, as they were.
 use Rattle.std.specs.Prelude.{◌≡◌, ℕ, Bool, cond, List, [], length}
 use Rattle.rules.specs.Bytes.{zeros}
 use Rattle.rules.specs.declared.Setup.{Setup}

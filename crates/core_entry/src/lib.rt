@@ -1,5 +1,5 @@
 // The entry points of the core. Each tests what it is given: whatever that is, the answer and every word and byte left are the ones that
-// the rules give.
+// the rules give. What is lent comes slice by slice and of any length: a type that knew the lengths would ask what these test.
 #![tactic(auto)]
 
 ghost use Rattle.std.specs.Prelude.{◌≡◌};
@@ -8,9 +8,11 @@ ghost use Rattle.core_answer.specs.Promises.{Steps};
 ghost use Rattle.core_look.specs.Look.{NumberOf, Shows};
 ghost use Rattle.core_entry.specs.Started.{Starts};
 
-use rules::{Answer, Asid, Event, Gvpn, Setup};
+use core_answer::{Given, Lent};
+use rules::{Answer, Asid, Event, Gvpn, Refusal, Setup};
 
 // Fresh tables and saved registers, and the lent frames and store zero; or, refused with 10, the same fresh words, and no byte changed.
+#[tactic(auto, unfolding(crate::specs::Started::started))]
 pub fn start(
     setup: Setup,
     tables: &mut [u16],
@@ -24,12 +26,13 @@ pub fn start(
     let taken = core_accept::startable(setup, tables, saved, frames, store, supply);
     core_tables::zero(tables);
     core_tables::saved::zero(saved);
-    let mut number = Answer::NOT_ACCEPTABLE;
-    if taken {
+    let number = if taken {
         core_bytes::zero(frames);
         core_bytes::zero(store);
-        number = Answer::DONE;
-    }
+        Answer::DONE
+    } else {
+        Refusal::NotAcceptable.into()
+    };
     Answer {
         number,
         seals: 0,
@@ -54,15 +57,24 @@ pub fn step(
         (left result tables.new saved.new frames.new store.new answer.new) }
 {
     if !core_accept::acceptable(setup, tables, saved, frames, store, supply) {
-        return core_answer::refused(tables, Answer::NOT_ACCEPTABLE);
+        return core_answer::refused(tables, Refusal::NotAcceptable.into());
     }
-    let number = core_refuse::refusal(setup, tables, event, data.len(), answer.len());
-    if number != Answer::DONE {
-        return core_answer::refused(tables, number);
+    if let Err(refusal) = core_refuse::refusal(setup, tables, event, data.len(), answer.len()) {
+        return core_answer::refused(tables, refusal.into());
     }
-    core_events::perform(
-        setup, tables, saved, frames, store, supply, event, data, answer,
-    )
+    let given = Given {
+        setup,
+        supply,
+        data,
+    };
+    let lent = Lent {
+        tables,
+        saved,
+        frames,
+        store,
+        answer,
+    };
+    core_events::perform(given, lent, event)
 }
 
 // The inspector's look at a private page: the part of the frames (Clear) or of the store (Sealed) that holds its bytes, itself and not

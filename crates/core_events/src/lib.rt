@@ -1,49 +1,49 @@
 // An event that is granted is done: each of document 01's fourteen by the function of its name.
 #![tactic(auto)]
 
-ghost use Rattle.core_answer.specs.Handed.{handed, left};
+ghost use Rattle.core_answer.specs.Lending.{handed_in, left_by};
 ghost use Rattle.core_answer.specs.Promises.{Granted, Steps};
 
+use core_answer::{Given, Lent};
 use core_events_application::contexts::{leave, spawn, trap};
 use core_events_application::pages::{cloak, read, uncloak, write};
 use core_events_kernel::{begin, end, kernel_read, kernel_write, map, resume, unmap};
-use rules::{Answer, Event, Event as E, Setup};
+use rules::{Answer, Event, Event as E};
 
 // The event is done, and what it leaves is answered.
-pub fn perform(
-    setup: Setup,
-    tables: &mut [u16],
-    saved: &mut [u64],
-    frames: &mut [u8],
-    store: &mut [u8],
-    supply: &[u8],
-    event: Event,
-    data: &[u8],
-    out: &mut [u8],
-) -> Answer
-    requires { Granted (handed setup tables.old saved.old frames.old store.old supply.now event «data».now out.old) }
-    ensures { Steps (handed setup tables.old saved.old frames.old store.old supply.now event «data».now out.old)
-        (left result tables.new saved.new frames.new store.new out.new) }
+pub fn perform(given: Given<'_>, lent: Lent<'_>, event: Event) -> Answer
+    requires { Granted (handed_in given lent event) }
+    ensures { Steps (handed_in given.entry lent.entry event) (left_by result lent.exit) }
 {
-    let x = setup;
+    // Made anew to be handed on: "a parameter that holds a `&mut [T]` which the caller gets back" is not covered as it is.
+    let Lent {
+        tables,
+        saved,
+        frames,
+        store,
+        answer,
+    } = lent;
+    let lent = Lent {
+        tables,
+        saved,
+        frames,
+        store,
+        answer,
+    };
     match event {
-        E::Begin(d, c) => begin(x, tables, saved, frames, store, supply, d, c, data, out),
-        E::End(d) => end(x, tables, saved, frames, store, supply, d, data, out),
-        E::Map(d, v, f) => map(x, tables, saved, frames, store, supply, d, v, f, data, out),
-        E::Unmap(d, v) => unmap(x, tables, saved, frames, store, supply, d, v, data, out),
-        E::KernelRead(f, s) => {
-            kernel_read(x, tables, saved, frames, store, supply, f, s, data, out)
-        }
-        E::KernelWrite(f, s) => {
-            kernel_write(x, tables, saved, frames, store, supply, f, s, data, out)
-        }
-        E::Resume(d, c) => resume(x, tables, saved, frames, store, supply, d, c, data, out),
-        E::Spawn(c, u) => spawn(x, tables, saved, frames, store, supply, c, u, data, out),
-        E::Leave(c) => leave(x, tables, saved, frames, store, supply, c, data, out),
-        E::Cloak(c, v) => cloak(x, tables, saved, frames, store, supply, c, v, data, out),
-        E::Uncloak(c, v) => uncloak(x, tables, saved, frames, store, supply, c, v, data, out),
-        E::Read(c, v, s) => read(x, tables, saved, frames, store, supply, c, v, s, data, out),
-        E::Write(c, v, s) => write(x, tables, saved, frames, store, supply, c, v, s, data, out),
-        E::Trap(c, k, m) => trap(x, tables, saved, frames, store, supply, c, k, m, data, out),
+        E::Begin(d, c) => begin(given, lent, d, c),
+        E::End(d) => end(given, lent, d),
+        E::Map(d, v, f) => map(given, lent, d, v, f),
+        E::Unmap(d, v) => unmap(given, lent, d, v),
+        E::KernelRead(f, span) => kernel_read(given, lent, f, span),
+        E::KernelWrite(f, span) => kernel_write(given, lent, f, span),
+        E::Resume(d, c) => resume(given, lent, d, c),
+        E::Spawn(c, u) => spawn(given, lent, c, u),
+        E::Leave(c) => leave(given, lent, c),
+        E::Cloak(c, v) => cloak(given, lent, c, v),
+        E::Uncloak(c, v) => uncloak(given, lent, c, v),
+        E::Read(c, v, span) => read(given, lent, c, v, span),
+        E::Write(c, v, span) => write(given, lent, c, v, span),
+        E::Trap(c, kind, mask) => trap(given, lent, c, kind, mask),
     }
 }

@@ -6,7 +6,6 @@ use native.Mathlib.Omega.{arith}
 use lib.ListN.{length, take, drop, get_or}
 use lib.Seq.{set-get_or}
 use lib.Dec.{T, leb→le}
-use borrow.Author.Tests.{eq-eqb, ne_eqb}
 use Rattle.rules.specs.Bytes.{all_of, part, with_part, overlay}
 use Rattle.rules.specs.Sizes.{page_number, context_in, page_in}
 use Rattle.rules.specs.Records.{Machine, given, underway, public_page, place_of}
@@ -32,7 +31,10 @@ use Rattle.core_tables.specs.Put.{Put, set_page}
 use Rattle.core_seal.specs.Asked.{Bringable}
 use Rattle.core_seal.proofs.Granted.{bringable}
 use Rattle.core_seal.proofs.Steps.{NotClear}
-use Rattle.core_answer.specs.Handed.{Handed, handed, given_in, refuses, stepped, leaves, ends}
+use Rattle.core_answer.specs.declared.lent.Given.{Given}
+use Rattle.core_answer.specs.declared.lent.Lent.{Lent}
+use Rattle.core_answer.specs.Handed.{Handed, given_in, refuses, stepped, leaves, ends}
+use Rattle.core_answer.specs.Lending.{handed_in}
 use Rattle.core_answer.proofs.Laws.{found, was_accepted, was_granted, granted_leaves}
 use Rattle.core_events_application.specs.OwnPages.{Owned, own_of, written_tables}
 use Rattle.core_events_application.specs.declared.pages.Own.{Own}
@@ -64,85 +66,71 @@ span_within : (s : Setup) (x : Span) → T (span_fits s x) → x.off + x.len ≤
 unfolding span_fits
 span_within s x t = leb→le (x.off + x.len) s.size (each _ t).1.0
 
--- what is left where bringing in fails, and where it does not
-then_fails : (s : Setup) (b : Effect) (next : Machine → Effect) (buffer : List ℕ) → (b.number ≡ 0 → ⊥)
-    → leaves s (performed (and_then b next) buffer) ≡ ends s b.number b.machine (overlay 0 b.bytes buffer)
-unfolding and_then performed
-then_fails s b next buffer some = rw (ne_eqb b.number 0 some)
-
-then_done : (s : Setup) (b : Effect) (next : Machine → Effect) (buffer : List ℕ) → b.number ≡ 0
-    → leaves s (performed (and_then b next) buffer) ≡ leaves s (performed (next b.machine) buffer)
-unfolding and_then
-then_done s b next buffer none = rw (eq-eqb b.number 0 none)
-
 -- what bringing in comes to, by its number and its machine
 abbrev came : ℕ → Machine → Effect
 came n m = record { machine = m; number = n; bytes = [] }
 
-module _ (setup : Setup) (words saved frames store supply : List ℕ) (c : Ctc) (v : Gvpn) (x : Span) (new buffer : List ℕ) where
+module _ (g : Given) (l : Lent) (c : Ctc) (v : Gvpn) (x : Span) where
   abbrev with_event : Event → Handed
-  with_event e = handed setup words saved frames store supply e new buffer
+  with_event e = handed_in g l e
 
   abbrev first : Own → List Gppn
-  first o = sealed_first o.frame (place_of setup (tables_in setup.pages words) o.domain v)
+  first o = sealed_first o.frame (place_of g.setup (tables_in g.setup.pages l.tables.now) o.domain v)
 
   abbrev brought_in : Own → Effect
   brought_in o =
-      bring_in (given setup supply) o.frame o.domain v
-      (seal_all (given setup supply) (first o) (machine_in setup words saved frames store 0 0))
+      bring_in (given g.setup g.supply.now) o.frame o.domain v
+      (seal_all (given g.setup g.supply.now) (first o) (machine_in g.setup l.tables.now l.saved.now l.frames.now l.store.now 0 0))
 
   -- of either kind
   module _ (e : Event)
-      (numbers : numbers_in setup e ≡ all_of (context_in setup c ∷ page_in setup v ∷ []))
-      (touches : row setup (tables_in setup.pages words) e ≡ touching setup (tables_in setup.pages words) c v x)
+      (numbers : numbers_in g.setup e ≡ all_of (context_in g.setup c ∷ page_in g.setup v ∷ []))
+      (touches : row g.setup (tables_in g.setup.pages l.tables.now) e ≡ touching g.setup (tables_in g.setup.pages l.tables.now) c v x)
       (none : refuses (with_event e) ≡ 0) where
-    span_ends : x.off + x.len ≤ setup.size
+    span_ends : x.off + x.len ≤ g.setup.size
     unfolding touching on_page
-    span_ends = span_within setup x (rw touches at (was_granted _ none).span)
+    span_ends = span_within g.setup x (rw touches at (was_granted _ none).span)
 
-    module _ (o : Own) (is : o ≡ own_of setup (tables_in setup.pages words) c v) where
-      brings : Bringable setup outset words frames store supply o.frame o.domain v (first o)
+    module _ (o : Own) (is : o ≡ own_of g.setup (tables_in g.setup.pages l.tables.now) c v) where
+      brings : Bringable g.setup outset l.tables.now l.frames.now l.store.now g.supply.now o.frame o.domain v (first o)
       unfolding touching on_page own_frame own_place
       brings =
           let r = found _ none in
-          bringable (given_in (with_event e)) outset (saved_in setup.contexts saved) words frames store r.tables_long r.canonical
-          _ (was_accepted _ none) (frame_in_holds (with_event e) c v numbers none o is (rw touches refl)) _ v
+          bringable (given_in (with_event e)) outset (saved_in g.setup.contexts l.saved.now) l.tables.now l.frames.now l.store.now
+          r.tables_long r.canonical _ (was_accepted _ none) (frame_in_holds (with_event e) c v numbers none o is (rw touches refl)) _ v
           (domain_in_holds (with_event e) c v numbers none o is) (owned (with_event e) c v numbers none).page (omega arith)
           (rw is (rw touches at (was_granted _ none).signatures)) (omega arith)
 
-      in_frame : {n : ℕ} → n ≡ length frames → o.frame.0 * setup.size + setup.size ≤ n
+      in_frame : {n : ℕ} → n ≡ length l.frames.now → o.frame.0 * g.setup.size + g.setup.size ≤ n
       unfolding touching on_page
       in_frame q = frame_fits (with_event e) c v numbers none o is (rw touches refl) q
 
   -- 11, read
   module _ (none : refuses (with_event (Read c v x)) ≡ 0) where
-    pub read_owned : Owned setup words c v
+    pub read_owned : Owned g.setup l.tables.now c v
     unfolding numbers_in
     read_owned = owned (with_event (Read c v x)) c v refl none
 
-    module _ (o : Own) (is : o ≡ own_of setup (tables_in setup.pages words) c v) where
-      pub read_brings : Bringable setup outset words frames store supply o.frame o.domain v (first o)
+    module _ (o : Own) (is : o ≡ own_of g.setup (tables_in g.setup.pages l.tables.now) c v) where
+      pub read_brings : Bringable g.setup outset l.tables.now l.frames.now l.store.now g.supply.now o.frame o.domain v (first o)
       unfolding numbers_in row
       read_brings = brings (Read c v x) refl refl none o is
 
       abbrev gives : Machine → Effect
-      gives n = done n (span_bytes setup o.frame x n)
+      gives n = done n (span_bytes g.setup o.frame x n)
 
       read_is : stepped (with_event (Read c v x))
-          ≡ leaves setup (performed (and_then (brought_in o) gives) buffer)
+          ≡ leaves g.setup (performed (and_then (brought_in o) gives) l.answer.now)
       unfolding perform row touching on_page does own_frame own_place
       read_is = rw is (granted_leaves (with_event (Read c v x)) none)
 
-      pub read_fails : (n : ℕ) (m : Machine) → came n m ≡ brought_in o → (n ≡ 0 → ⊥)
-          → ends setup n m buffer ≡ stepped (with_event (Read c v x))
-      unfolding overlay
-      read_fails n m e some =
-          sym
-          (read_is ∙ ap (λ b. leaves setup (performed (and_then b gives) buffer)) (sym e)
-          ∙ then_fails setup (came n m) gives buffer some)
+      pub read_fails : (m : Machine) → came 8 m ≡ brought_in o → ends g.setup 8 m l.answer.now ≡ stepped (with_event (Read c v x))
+      unfolding and_then performed overlay
+      read_fails m e =
+          sym (read_is ∙ ap (λ b. leaves g.setup (performed (and_then b gives) l.answer.now)) (sym e))
 
-      pub read_fits : {n : ℕ} → n ≡ length frames
-          → (x.off + x.len ≤ setup.size) × (o.frame.0 * setup.size + setup.size ≤ n) × (x.len ≤ length buffer)
+      pub read_fits : {n : ℕ} → n ≡ length l.frames.now
+          → (x.off + x.len ≤ g.setup.size) × (o.frame.0 * g.setup.size + g.setup.size ≤ n) × (x.len ≤ length l.answer.now)
       unfolding numbers_in row
       read_fits e = (
         span_ends (Read c v x) refl refl none,
@@ -150,63 +138,55 @@ module _ (setup : Setup) (words saved frames store supply : List ℕ) (c : Ctc) 
         (was_granted _ none).gives,
       )
 
-      pub read_gives : (n : ℕ) (m : Machine) {answer : List ℕ} → came n m ≡ brought_in o → n ≡ 0
-          → answer ≡ overlay 0 (take x.len (drop x.off (part setup.size o.frame.0 m.frames))) buffer
-          → ends setup 0 m answer ≡ stepped (with_event (Read c v x))
-      unfolding performed done span_bytes
-      read_gives n m e zero q =
-          rw q
-          (sym
-          (read_is ∙ ap (λ b. leaves setup (performed (and_then b gives) buffer)) (sym e)
-          ∙ then_done setup (came n m) gives buffer zero))
+      pub read_gives : (m : Machine) {answer : List ℕ} → came 0 m ≡ brought_in o
+          → answer ≡ overlay 0 (take x.len (drop x.off (part g.setup.size o.frame.0 m.frames))) l.answer.now
+          → ends g.setup 0 m answer ≡ stepped (with_event (Read c v x))
+      unfolding and_then performed done span_bytes
+      read_gives m e q =
+          rw q (sym (read_is ∙ ap (λ b. leaves g.setup (performed (and_then b gives) l.answer.now)) (sym e)))
 
   -- 12, write
   module _ (none : refuses (with_event (Write c v x)) ≡ 0) where
-    pub write_owned : Owned setup words c v
+    pub write_owned : Owned g.setup l.tables.now c v
     unfolding numbers_in
     write_owned = owned (with_event (Write c v x)) c v refl none
 
-    module _ (o : Own) (is : o ≡ own_of setup (tables_in setup.pages words) c v) where
-      pub write_brings : Bringable setup outset words frames store supply o.frame o.domain v (first o)
+    module _ (o : Own) (is : o ≡ own_of g.setup (tables_in g.setup.pages l.tables.now) c v) where
+      pub write_brings : Bringable g.setup outset l.tables.now l.frames.now l.store.now g.supply.now o.frame o.domain v (first o)
       unfolding numbers_in row
       write_brings = brings (Write c v x) refl refl none o is
 
       abbrev stores : Machine → Effect
-      stores n = done (marked_dirty setup o.domain v (store_span setup o.frame x new n)) []
+      stores n = done (marked_dirty g.setup o.domain v (store_span g.setup o.frame x g.«data».now n)) []
 
       write_is : stepped (with_event (Write c v x))
-          ≡ leaves setup (performed (and_then (brought_in o) stores) buffer)
+          ≡ leaves g.setup (performed (and_then (brought_in o) stores) l.answer.now)
       unfolding perform row touching on_page does own_frame own_place
       write_is = rw is (granted_leaves (with_event (Write c v x)) none)
 
-      pub write_fails : (n : ℕ) (m : Machine) → came n m ≡ brought_in o → (n ≡ 0 → ⊥)
-          → ends setup n m buffer ≡ stepped (with_event (Write c v x))
-      unfolding overlay
-      write_fails n m e some =
-          sym
-          (write_is ∙ ap (λ b. leaves setup (performed (and_then b stores) buffer)) (sym e)
-          ∙ then_fails setup (came n m) stores buffer some)
+      pub write_fails : (m : Machine) → came 8 m ≡ brought_in o → ends g.setup 8 m l.answer.now ≡ stepped (with_event (Write c v x))
+      unfolding and_then performed overlay
+      write_fails m e =
+          sym (write_is ∙ ap (λ b. leaves g.setup (performed (and_then b stores) l.answer.now)) (sym e))
 
-      pub write_fits : {n : ℕ} → n ≡ length frames
-          → (x.off + length new ≤ setup.size) × (o.frame.0 * setup.size + setup.size ≤ n)
+      pub write_fits : {n : ℕ} → n ≡ length l.frames.now
+          → (x.off + length g.«data».now ≤ g.setup.size) × (o.frame.0 * g.setup.size + g.setup.size ≤ n)
       unfolding numbers_in row
       write_fits e =
-          let long : length new ≡ x.len = (was_granted _ none).brings in
+          let long : length g.«data».now ≡ x.len = (was_granted _ none).brings in
           (rw long (span_ends (Write c v x) refl refl none), in_frame (Write c v x) refl refl none o is e)
 
-      pub write_marks : {n : ℕ} → n ≡ length words → (n ≡ image_words) × (o.number < max_entries)
+      pub write_marks : {n : ℕ} → n ≡ length l.tables.now → (n ≡ image_words) × (o.number < max_entries)
       unfolding numbers_in
       write_marks e = (omega (arith, write_owned.tested.long), (own_number (with_event (Write c v x)) c v refl none o is).listed)
 
-      pub write_stores : (n : ℕ) (m : Machine) {bytes : List ℕ} {t : Tables} → came n m ≡ brought_in o → n ≡ 0
+      pub write_stores : (m : Machine) {bytes : List ℕ} {t : Tables} → came 0 m ≡ brought_in o
           → bytes
-          ≡ with_part setup.size o.frame.0 (overlay x.off new (part setup.size o.frame.0 m.frames)) m.frames
+          ≡ with_part g.setup.size o.frame.0 (overlay x.off g.«data».now (part g.setup.size o.frame.0 m.frames)) m.frames
           → t ≡ written_tables o.number m.tables
-          → ends setup 0 (underway t m.saved bytes m.store m.seals m.unveils) buffer ≡ stepped (with_event (Write c v x))
-      unfolding performed done marked_dirty store_span overlay
-      write_stores n m e zero b q =
-          let number : o.number ≡ page_number setup o.domain v = rw is refl in
+          → ends g.setup 0 (underway t m.saved bytes m.store m.seals m.unveils) l.answer.now ≡ stepped (with_event (Write c v x))
+      unfolding and_then performed done marked_dirty store_span overlay
+      write_stores m e b q =
+          let number : o.number ≡ page_number g.setup o.domain v = rw is refl in
           rw (q, b, number)
-          (sym
-          (write_is ∙ ap (λ b. leaves setup (performed (and_then b stores) buffer)) (sym e)
-          ∙ then_done setup (came n m) stores buffer zero))
+          (sym (write_is ∙ ap (λ b. leaves g.setup (performed (and_then b stores) l.answer.now)) (sym e)))

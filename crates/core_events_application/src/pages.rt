@@ -2,12 +2,13 @@
 ghost use Rattle.std.specs.Prelude.{◌≡◌, ℕ, ◌<◌, length};
 ghost use Rattle.core_tables.specs.Image.{image_words, max_entries, tables_in};
 ghost use Rattle.core_tables.specs.Put.{Put};
-ghost use Rattle.core_answer.specs.Handed.{handed, left};
+ghost use Rattle.core_answer.specs.Lending.{handed_in, left_by};
 ghost use Rattle.core_answer.specs.Promises.{Granted, Steps};
 ghost use Rattle.core_events_application.specs.OwnPages.{Owned, own_of, Openable, Opened, written_tables};
 
-use core_seal::Work;
-use rules::{Answer, Asid, Ctc, Event, Gppn, Gvpn, Named, Place, Setup, Span, Wear};
+use core_answer::{Given, Lent};
+use core_seal::{NotUnveiled, Work};
+use rules::{Answer, Asid, Ctc, Event, Gppn, Gvpn, Place, Refusal, Setup, Span, Wear};
 
 // Of a context's own page: its domain, the frame that it is mapped to, and its number among all.
 #[derive(Clone, Copy)]
@@ -28,7 +29,7 @@ fn own_page(setup: Setup, tables: &[u16], c: Ctc, v: Gvpn) -> Own
     let mapping = core_tables::mapping_at(tables, number);
     Own {
         domain,
-        frame: mapping.frame(),
+        frame: mapping.unwrap_or(Gppn(0)),
         number,
     }
 }
@@ -42,7 +43,7 @@ fn open_home(setup: Setup, tables: &mut [u16], frames: &mut [u8], place: Place)
         return;
     };
     core_bytes::zero_page(frames, setup.size, f.0 as usize);
-    core_tables::put_names(tables, setup.pages, f.0 as usize, Named::Nothing);
+    core_tables::put_names(tables, setup.pages, f.0 as usize, None);
 }
 
 // The page of this number was written: a private one is dirty, even where the bytes are those that stood there.
@@ -59,30 +60,21 @@ fn mark_dirty(tables: &mut [u16], number: usize)
 }
 
 // Kind 9: what is Clear in the mapped frame is sealed, the frame becomes zero, and the page Clear there, dirty.
-pub fn cloak(
-    setup: Setup,
-    tables: &mut [u16],
-    saved: &[u64],
-    frames: &mut [u8],
-    store: &mut [u8],
-    supply: &[u8],
-    c: Ctc,
-    v: Gvpn,
-    data: &[u8],
-    answer: &[u8],
-) -> Answer
-    requires { Granted (handed setup tables.old saved.now frames.old store.old supply.now (Event.Cloak c v) «data».now answer.now) }
-    ensures { Steps (handed setup tables.old saved.now frames.old store.old supply.now (Event.Cloak c v) «data».now answer.now)
-        (left result tables.new saved.now frames.new store.new answer.now) }
+pub fn cloak(given: Given<'_>, lent: Lent<'_>, c: Ctc, v: Gvpn) -> Answer
+    requires { Granted (handed_in given lent (Event.Cloak c v)) }
+    ensures { Steps (handed_in given.entry lent.entry (Event.Cloak c v)) (left_by result lent.exit) }
 {
+    let Lent {
+        tables,
+        frames,
+        store,
+        ..
+    } = lent;
+    let setup = given.setup;
     let own = own_page(setup, tables, c, v);
     let f = own.frame;
     let d = own.domain;
-    let work = Work {
-        seals: 0,
-        unveils: 0,
-    };
-    let sealed = core_seal::seal(setup, work, tables, frames, store, supply, f);
+    let sealed = core_seal::seal(setup, Work::NONE, tables, frames, store, given.supply, f);
     let frame = f.0 as usize;
     core_bytes::zero_page(frames, setup.size, frame);
     core_tables::put_move(
@@ -91,28 +83,23 @@ pub fn cloak(
         own.number,
         Place::Clear(f, Wear::Dirty),
         frame,
-        Named::Page(d, v),
+        Some((d, v)),
     );
     core_answer::told(tables, Answer::DONE, sealed.seals, sealed.unveils)
 }
 
 // Kind 10: the frame in which the page is Clear, and its slot, become zero, and the page Public.
-pub fn uncloak(
-    setup: Setup,
-    tables: &mut [u16],
-    saved: &[u64],
-    frames: &mut [u8],
-    store: &mut [u8],
-    supply: &[u8],
-    c: Ctc,
-    v: Gvpn,
-    data: &[u8],
-    answer: &[u8],
-) -> Answer
-    requires { Granted (handed setup tables.old saved.now frames.old store.old supply.now (Event.Uncloak c v) «data».now answer.now) }
-    ensures { Steps (handed setup tables.old saved.now frames.old store.old supply.now (Event.Uncloak c v) «data».now answer.now)
-        (left result tables.new saved.now frames.new store.new answer.now) }
+pub fn uncloak(given: Given<'_>, lent: Lent<'_>, c: Ctc, v: Gvpn) -> Answer
+    requires { Granted (handed_in given lent (Event.Uncloak c v)) }
+    ensures { Steps (handed_in given.entry lent.entry (Event.Uncloak c v)) (left_by result lent.exit) }
 {
+    let Lent {
+        tables,
+        frames,
+        store,
+        ..
+    } = lent;
+    let setup = given.setup;
     let own = own_page(setup, tables, c, v);
     let number = own.number;
     let place = core_tables::place_at(tables, number);
@@ -123,71 +110,61 @@ pub fn uncloak(
 }
 
 // Kind 11: a private page is brought in and its bytes given; of a Public one the mapped frame's, as the kernel is given them.
-pub fn read(
-    setup: Setup,
-    tables: &mut [u16],
-    saved: &[u64],
-    frames: &mut [u8],
-    store: &mut [u8],
-    supply: &[u8],
-    c: Ctc,
-    v: Gvpn,
-    span: Span,
-    data: &[u8],
-    answer: &mut [u8],
-) -> Answer
-    requires { Granted (handed setup tables.old saved.now frames.old store.old supply.now (Event.Read c v span) «data».now answer.old) }
-    ensures { Steps (handed setup tables.old saved.now frames.old store.old supply.now (Event.Read c v span) «data».now answer.old)
-        (left result tables.new saved.now frames.new store.new answer.new) }
+pub fn read(given: Given<'_>, lent: Lent<'_>, c: Ctc, v: Gvpn, span: Span) -> Answer
+    requires { Granted (handed_in given lent (Event.Read c v span)) }
+    ensures { Steps (handed_in given.entry lent.entry (Event.Read c v span)) (left_by result lent.exit) }
 {
+    let Lent {
+        tables,
+        frames,
+        store,
+        answer,
+        ..
+    } = lent;
+    let setup = given.setup;
     let own = own_page(setup, tables, c, v);
     let f = own.frame;
     let d = own.domain;
-    let work = Work {
-        seals: 0,
-        unveils: 0,
-    };
-    let brought = core_seal::bring_in(setup, work, tables, frames, store, supply, f, d, v);
-    let made = brought.work;
-    if brought.number != Answer::DONE {
-        return core_answer::told(tables, brought.number, made.seals, made.unveils);
+    let work = Work::NONE;
+    let to_read = core_seal::bring_in(setup, work, tables, frames, store, given.supply, f, d, v);
+    match to_read {
+        Ok(made) => {
+            core_bytes::give_span(frames, setup.size, f.0 as usize, span.off, span.len, answer);
+            core_answer::told(tables, Answer::DONE, made.seals, made.unveils)
+        }
+        Err(NotUnveiled(made)) => {
+            let number = u8::from(Refusal::NotUnveiled);
+            core_answer::told(tables, number, made.seals, made.unveils)
+        }
     }
-    core_bytes::give_span(frames, setup.size, f.0 as usize, span.off, span.len, answer);
-    core_answer::told(tables, Answer::DONE, made.seals, made.unveils)
 }
 
 // Kind 12: a private page is brought in, the data stored, and the page dirty; on a Public one the data goes to the mapped frame.
-pub fn write(
-    setup: Setup,
-    tables: &mut [u16],
-    saved: &[u64],
-    frames: &mut [u8],
-    store: &mut [u8],
-    supply: &[u8],
-    c: Ctc,
-    v: Gvpn,
-    span: Span,
-    data: &[u8],
-    answer: &[u8],
-) -> Answer
-    requires { Granted (handed setup tables.old saved.now frames.old store.old supply.now (Event.Write c v span) «data».now answer.now) }
-    ensures { Steps (handed setup tables.old saved.now frames.old store.old supply.now (Event.Write c v span) «data».now answer.now)
-        (left result tables.new saved.now frames.new store.new answer.now) }
+pub fn write(given: Given<'_>, lent: Lent<'_>, c: Ctc, v: Gvpn, span: Span) -> Answer
+    requires { Granted (handed_in given lent (Event.Write c v span)) }
+    ensures { Steps (handed_in given.entry lent.entry (Event.Write c v span)) (left_by result lent.exit) }
 {
+    let Lent {
+        tables,
+        frames,
+        store,
+        ..
+    } = lent;
+    let setup = given.setup;
     let own = own_page(setup, tables, c, v);
     let f = own.frame;
     let d = own.domain;
-    let work = Work {
-        seals: 0,
-        unveils: 0,
-    };
-    let brought = core_seal::bring_in(setup, work, tables, frames, store, supply, f, d, v);
-    let made = brought.work;
-    let number = brought.number;
-    if number != Answer::DONE {
-        return core_answer::told(tables, number, made.seals, made.unveils);
+    let work = Work::NONE;
+    let to_write = core_seal::bring_in(setup, work, tables, frames, store, given.supply, f, d, v);
+    match to_write {
+        Ok(made) => {
+            core_bytes::put_span(frames, setup.size, f.0 as usize, span.off, given.data);
+            mark_dirty(tables, own.number);
+            core_answer::told(tables, Answer::DONE, made.seals, made.unveils)
+        }
+        Err(NotUnveiled(made)) => {
+            let number = u8::from(Refusal::NotUnveiled);
+            core_answer::told(tables, number, made.seals, made.unveils)
+        }
     }
-    core_bytes::put_span(frames, setup.size, f.0 as usize, span.off, data);
-    mark_dirty(tables, own.number);
-    core_answer::told(tables, Answer::DONE, made.seals, made.unveils)
 }

@@ -1,7 +1,6 @@
 -- Kind 1, end, where it is granted: what the code asks is given, and what the rules leave.
 use mathlib.Core.Path.{◌≡◌}
-use mathlib.Core.List.{List}
-use Prim.Native.Nat.{ℕ, ◌<◌}
+use Prim.Native.Nat.{◌<◌}
 use lib.ListN.{length}
 use lib.Dec.{ltb→lt}
 use Rattle.rules.specs.Sizes.{domain_in}
@@ -9,23 +8,25 @@ use Rattle.rules.specs.Sealing.{seal_all, done}
 use Rattle.rules.specs.Events.{numbers_in, row, on_records, does, ended}
 use Rattle.rules.specs.Answers.{perform, performed}
 use Rattle.rules.specs.Bytes.{overlay}
-use Rattle.rules.specs.declared.Setup.{Setup}
 use Rattle.rules.specs.declared.Asid.{Asid}
 use Rattle.rules.specs.declared.Event.TheVariants.{End}
-use Rattle.core_answer.specs.Handed.{Handed, handed, machine_in, refuses, stepped, ends}
+use Rattle.core_answer.specs.declared.lent.Given.{Given}
+use Rattle.core_answer.specs.declared.lent.Lent.{Lent}
+use Rattle.core_answer.specs.Handed.{Handed, machine_in, refuses, stepped, ends}
+use Rattle.core_answer.specs.Lending.{handed_in}
 use Rattle.core_answer.proofs.Laws.{was_tested, found, was_accepted, was_granted, granted_leaves}
 use Rattle.core_end.specs.Ending.{Endable}
 
-module _ (setup : Setup) (words saved frames store supply : List ℕ) (d : Asid) (new buffer : List ℕ) where
+module _ (g : Given) (l : Lent) (d : Asid) where
   abbrev ending : Handed
-  ending = handed setup words saved frames store supply (End d) new buffer
+  ending = handed_in g l (End d)
 
   module _ (none : refuses ending ≡ 0) where
-    domain_in_holds : d.0 < setup.domains
+    domain_in_holds : d.0 < g.setup.domains
     unfolding numbers_in domain_in
-    domain_in_holds = ltb→lt d.0 setup.domains (was_granted _ none).numbers
+    domain_in_holds = ltb→lt d.0 g.setup.domains (was_granted _ none).numbers
 
-    pub endable : Endable setup d words (length saved) (length frames) (length store)
+    pub endable : Endable g.setup d l.tables.now (length l.saved.now) (length l.frames.now) (length l.store.now)
     endable =
         record {
           tested = was_tested _ none;
@@ -35,6 +36,6 @@ module _ (setup : Setup) (words saved frames store supply : List ℕ) (d : Asid)
           store_long = (was_accepted _ none).looks.store;
         }
 
-    pub end_leaves : stepped ending ≡ ends setup 0 (ended setup d (machine_in ending)) buffer
+    pub end_leaves : stepped ending ≡ ends g.setup 0 (ended g.setup d (machine_in ending)) l.answer.now
     unfolding perform performed row on_records seal_all does done overlay
     end_leaves = granted_leaves ending none

@@ -23,7 +23,10 @@ use Rattle.core_tables.specs.Image.{tables_in, saved_in}
 use Rattle.core_seal.specs.Asked.{Sealable}
 use Rattle.core_seal.specs.declared.Work.{Work}
 use Rattle.core_seal.proofs.Granted.{sealable}
-use Rattle.core_answer.specs.Handed.{Handed, handed, given_in, machine_in, refuses, stepped, ends}
+use Rattle.core_answer.specs.declared.lent.Given.{Given}
+use Rattle.core_answer.specs.declared.lent.Lent.{Lent}
+use Rattle.core_answer.specs.Handed.{Handed, given_in, machine_in, refuses, stepped, ends}
+use Rattle.core_answer.specs.Lending.{handed_in}
 use Rattle.core_answer.proofs.Laws.{found, was_accepted, was_granted, granted_leaves}
 
 -- a span that fits is not empty and ends within the page
@@ -35,39 +38,39 @@ span_within s x t = let e = each _ t in (ltb→lt 0 x.len e.0, leb→le (x.off +
 abbrev pub outset : Work
 outset = record { seals = 0; unveils = 0 }
 
-module _ (setup : Setup) (words saved frames store supply : List ℕ) (f : Gppn) (x : Span) (new buffer : List ℕ) where
+module _ (g : Given) (l : Lent) (f : Gppn) (x : Span) where
   abbrev with_event : Event → Handed
-  with_event e = handed setup words saved frames store supply e new buffer
+  with_event e = handed_in g l e
 
   -- of either kind
-  module _ (e : Event) (in_frame : numbers_in setup e ≡ frame_in setup f)
-      (on-frame : row setup (tables_in setup.pages words) e ≡ on_frame setup f x) (none : refuses (with_event e) ≡ 0) where
-    frame_in_holds : f.0 < setup.frames
+  module _ (e : Event) (in_frame : numbers_in g.setup e ≡ frame_in g.setup f)
+      (on-frame : row g.setup (tables_in g.setup.pages l.tables.now) e ≡ on_frame g.setup f x) (none : refuses (with_event e) ≡ 0) where
+    frame_in_holds : f.0 < g.setup.frames
     unfolding frame_in
-    frame_in_holds = ltb→lt f.0 setup.frames (rw in_frame at (was_granted _ none).numbers)
+    frame_in_holds = ltb→lt f.0 g.setup.frames (rw in_frame at (was_granted _ none).numbers)
 
-    seals_it : Sealable setup outset words frames store supply f
+    seals_it : Sealable g.setup outset l.tables.now l.frames.now l.store.now g.supply.now f
     unfolding on_frame
     seals_it =
         let r = found _ none in
-        sealable (given_in (with_event e)) outset (saved_in setup.contexts saved) words frames store r.tables_long r.canonical f
-        (was_accepted _ none) frame_in_holds (rw on-frame at (was_granted _ none).signatures) (omega arith)
+        sealable (given_in (with_event e)) outset (saved_in g.setup.contexts l.saved.now) l.tables.now l.frames.now l.store.now
+        r.tables_long r.canonical f (was_accepted _ none) frame_in_holds (rw on-frame at (was_granted _ none).signatures) (omega arith)
 
-    frame_fits : {n : ℕ} → n ≡ length frames → f.0 * setup.size + setup.size ≤ n
-    frame_fits e = omega (arith, part_fits setup.size f.0 setup.frames frame_in_holds (was_accepted _ none).looks.frames)
+    frame_fits : {n : ℕ} → n ≡ length l.frames.now → f.0 * g.setup.size + g.setup.size ≤ n
+    frame_fits e = omega (arith, part_fits g.setup.size f.0 g.setup.frames frame_in_holds (was_accepted _ none).looks.frames)
 
-    span_ends : x.off + x.len ≤ setup.size
+    span_ends : x.off + x.len ≤ g.setup.size
     unfolding on_frame
-    span_ends = (span_within setup x (rw on-frame at (was_granted _ none).span)).1
+    span_ends = (span_within g.setup x (rw on-frame at (was_granted _ none).span)).1
 
   -- 4, kernel read
   module _ (none : refuses (with_event (KernelRead f x)) ≡ 0) where
-    pub read_seals : Sealable setup outset words frames store supply f
+    pub read_seals : Sealable g.setup outset l.tables.now l.frames.now l.store.now g.supply.now f
     unfolding numbers_in row
     read_seals = seals_it (KernelRead f x) refl refl none
 
-    pub read_fits : {n : ℕ} → n ≡ length frames
-        → (x.off + x.len ≤ setup.size) × (f.0 * setup.size + setup.size ≤ n) × (x.len ≤ length buffer)
+    pub read_fits : {n : ℕ} → n ≡ length l.frames.now
+        → (x.off + x.len ≤ g.setup.size) × (f.0 * g.setup.size + g.setup.size ≤ n) × (x.len ≤ length l.answer.now)
     unfolding numbers_in row
     read_fits e = (
       span_ends (KernelRead f x) refl refl none,
@@ -77,28 +80,28 @@ module _ (setup : Setup) (words saved frames store supply : List ℕ) (f : Gppn)
 
     pub read_leaves : (m : Machine) {answer : List ℕ}
         → m ≡ seal (given_in (with_event (KernelRead f x))) f (machine_in (with_event (KernelRead f x)))
-        → answer ≡ overlay 0 (take x.len (drop x.off (part setup.size f.0 m.frames))) buffer
-        → ends setup 0 m answer ≡ stepped (with_event (KernelRead f x))
+        → answer ≡ overlay 0 (take x.len (drop x.off (part g.setup.size f.0 m.frames))) l.answer.now
+        → ends g.setup 0 m answer ≡ stepped (with_event (KernelRead f x))
     unfolding perform performed row on_frame seal_all does done span_bytes
     read_leaves m e q = rw (q, e) (sym (granted_leaves (with_event (KernelRead f x)) none))
 
   -- 5, kernel write
   module _ (none : refuses (with_event (KernelWrite f x)) ≡ 0) where
-    pub write_seals : Sealable setup outset words frames store supply f
+    pub write_seals : Sealable g.setup outset l.tables.now l.frames.now l.store.now g.supply.now f
     unfolding numbers_in row
     write_seals = seals_it (KernelWrite f x) refl refl none
 
-    pub write_fits : {n : ℕ} → n ≡ length frames
-        → (x.off + length new ≤ setup.size) × (f.0 * setup.size + setup.size ≤ n)
+    pub write_fits : {n : ℕ} → n ≡ length l.frames.now
+        → (x.off + length g.«data».now ≤ g.setup.size) × (f.0 * g.setup.size + g.setup.size ≤ n)
     unfolding numbers_in row
     write_fits e =
-        let brings : length new ≡ x.len = (was_granted _ none).brings in
+        let brings : length g.«data».now ≡ x.len = (was_granted _ none).brings in
         (rw brings (span_ends (KernelWrite f x) refl refl none), frame_fits (KernelWrite f x) refl refl none e)
 
     pub write_leaves : (m : Machine) {bytes : List ℕ}
         → m ≡ seal (given_in (with_event (KernelWrite f x))) f (machine_in (with_event (KernelWrite f x)))
-        → bytes ≡ with_part setup.size f.0 (overlay x.off new (part setup.size f.0 m.frames)) m.frames
-        → ends setup 0 (underway m.tables m.saved bytes m.store m.seals m.unveils) buffer
+        → bytes ≡ with_part g.setup.size f.0 (overlay x.off g.«data».now (part g.setup.size f.0 m.frames)) m.frames
+        → ends g.setup 0 (underway m.tables m.saved bytes m.store m.seals m.unveils) l.answer.now
         ≡ stepped (with_event (KernelWrite f x))
     unfolding perform performed row on_frame seal_all does done store_span overlay
     write_leaves m e q = rw (q, e) (sym (granted_leaves (with_event (KernelWrite f x)) none))

@@ -2,25 +2,43 @@
 // of the frames or of the store that holds the page's bytes, and changes nothing.
 #![tactic(auto)]
 
-ghost use Rattle.std.specs.Prelude.{◌≡◌, [], ◌∷◌, ◌+◌, ◌*◌, ◌≤◌, length};
-ghost use Rattle.rules.specs.Bytes.{part, all_of};
-ghost use Rattle.rules.specs.Sizes.{domain_in, page_in};
-ghost use Rattle.core_look.specs.Look.{past, NumberOf, Shows};
+ghost use Rattle.std.specs.Prelude.{◌≡◌, ◌+◌, ◌*◌, ◌≤◌, length, IfOk};
+ghost use Rattle.rules.specs.Bytes.{part};
+ghost use Rattle.rules.specs.Records.{place_of};
+ghost use Rattle.rules.specs.Refusals.{number_in};
+ghost use Rattle.core_tables.specs.Image.{tables_in};
+ghost use Rattle.core_look.specs.Look.{past, look_number, NumberOf, Shows};
 
-use rules::{Answer, Asid, Gvpn, Place, Setup};
+use rules::{Asid, Gvpn, Place, Refusal, Setup};
 
-// Whether a page is within the setup.
-fn inside(setup: Setup, domain: Asid, page: Gvpn) -> bool
-    ensures { result ≡ all_of (domain_in setup domain ∷ page_in setup page ∷ []) }
+// Where a private page's bytes are, or why a look at it is refused.
+#[tactic(auto, using(crate::proofs::Within::checked))]
+fn private_place(
+    setup: Setup,
+    tables: &[u16],
+    saved: &[u64],
+    frames: &[u8],
+    store: &[u8],
+    domain: Asid,
+    page: Gvpn,
+) -> Result<Place, Refusal>
+    ensures answers { number_in result ≡ look_number setup tables.now saved.now frames.now store.now domain page }
+    ensures found { IfOk result (λ p. p ≡ place_of setup (tables_in setup.pages tables.now) domain page) }
 {
-    if (domain.0 as usize) < setup.domains {
-        (page.0 as usize) < setup.pages
-    } else {
-        false
+    if !core_accept::lookable(setup, tables, saved, frames, store) {
+        return Err(Refusal::NotAcceptable);
+    }
+    if usize::from(domain.0) >= setup.domains || usize::from(page.0) >= setup.pages {
+        return Err(Refusal::OutOfRange);
+    }
+    match core_tables::place_at(tables, setup.page_number(domain, page)) {
+        Place::Public => Err(Refusal::WrongCondition),
+        place => Ok(place),
     }
 }
 
-// The number that a look is answered with: 0 where it hands back the page's bytes, else 10, 2 or 4.
+// The number that a look is answered with: 0 where it hands back the page's bytes, else 10, 2 or 4. A number, as `NumberOf` of
+// the entry point's promise is.
 pub fn look_number(
     setup: Setup,
     tables: &[u16],
@@ -32,29 +50,20 @@ pub fn look_number(
 ) -> u8
     ensures { result ≡ NumberOf setup tables saved frames store domain page }
 {
-    if !core_accept::lookable(setup, tables, saved, frames, store) {
-        return Answer::NOT_ACCEPTABLE;
-    }
-    if !inside(setup, domain, page) {
-        return Answer::OUT_OF_RANGE;
-    }
-    let place = core_tables::place_at(tables, setup.page_number(domain, page));
-    match place {
-        Place::Public => Answer::WRONG_CONDITION,
-        Place::Clear(_, _) => Answer::DONE,
-        Place::Sealed(_) => Answer::DONE,
+    match private_place(setup, tables, saved, frames, store, domain, page) {
+        Ok(_) => 0,
+        Err(refusal) => refusal.into(),
     }
 }
 
-// Part k of bytes that are cut into parts of size bytes each, where it stands.
+// Part k of bytes that are cut into parts of size bytes each, where it stands: `core_bytes::page` does not promise the place.
 fn part_of<'a>(bytes: &'a [u8], size: usize, k: usize) -> &'a [u8]
     requires { k * size + size ≤ length bytes.now }
     ensures holds { result.now ≡ part size k bytes.now }
     ensures stands { result.ref_ptr ≡ past (k * size) bytes.entry.ref_ptr }
 {
-    let a = k * size;
-    let e = a + size;
-    &bytes[a..e]
+    let start = k * size;
+    &bytes[start..start + size]
 }
 
 // The part that holds a private page's bytes: of the frames where it is Clear, of the store where it is Sealed. An empty
@@ -70,15 +79,12 @@ pub fn look<'a>(
 ) -> &'a [u8]
     ensures { Shows setup tables saved frames store domain page result }
 {
-    if look_number(setup, tables, saved, frames, store, domain, page) != Answer::DONE {
+    let Ok(place) = private_place(setup, tables, saved, frames, store, domain, page) else {
         return &frames[0..0];
-    }
-    let size = setup.size;
-    let slot = setup.page_number(domain, page);
-    let place = core_tables::place_at(tables, slot);
+    };
     match place {
         Place::Public => &frames[0..0],
-        Place::Clear(f, _) => part_of(frames, size, f.0 as usize),
-        Place::Sealed(_) => part_of(store, size, slot),
+        Place::Clear(frame, _) => part_of(frames, setup.size, usize::from(frame.0)),
+        Place::Sealed(_) => part_of(store, setup.size, setup.page_number(domain, page)),
     }
 }

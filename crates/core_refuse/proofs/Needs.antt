@@ -1,4 +1,5 @@
 -- Laws of what an event needs of the records: numbers that are within the tables, and the signatures that its seals take.
+use Rattle.std.specs.Prelude.{Some}
 use mathlib.Core.Path.{◌≡◌, refl}
 use mathlib.Core.List.{[], ◌∷◌}
 use mathlib.Core.Bool.{Bool, true, false, cond}
@@ -19,12 +20,11 @@ use Rattle.rules.specs.declared.Ctc.{Ctc}
 use Rattle.rules.specs.declared.Wear.{Wear}
 use Rattle.rules.specs.declared.Place.{Place}
 use Rattle.rules.specs.declared.Place.TheVariants.{Public, Clear, Sealed}
-use Rattle.rules.specs.declared.Named.TheVariants.{Page}
 
 -- the signatures of what is sealed before a page is brought in: none where it is Clear there, else its own where it is
 -- Clear elsewhere, and what is Clear in the frame
 pub needed_first : (s : Setup) (t : Tables) (f : Gppn) (d : Asid) (v : Gvpn) (p : Place) → place_of s t d v ≡ p
-    → ((h : Gppn) (w : Wear) → p ≡ Clear h w → names_of t h ≡ Page d v)
+    → ((h : Gppn) (w : Wear) → p ≡ Clear h w → names_of t h ≡ Some (d, v))
     → needed s t (sealed_first f p) ≡ cond (is_clear_in f p) 0 (takes_at p + takes_named s t (names_of t f))
 unfolding needed sealed_first takes_at takes_named
 needed_first s t f d v Public e named = omega arith

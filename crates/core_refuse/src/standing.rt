@@ -6,41 +6,41 @@ ghost use Rattle.rules.specs.Sizes.{max_signatures};
 ghost use Rattle.rules.specs.Records.{names_of};
 ghost use Rattle.rules.specs.Sealing.{takes_named};
 ghost use Rattle.rules.specs.Answers.{first_of};
+ghost use Rattle.rules.specs.Refusals.{number_in};
+ghost use Rattle.rules.specs.declared.Span.{Span};
 ghost use Rattle.core_tables.specs.Image.{tables_in};
 ghost use Rattle.core_tables.specs.Tested.{Tested};
 ghost use Rattle.core_refuse.specs.Stages.{record_checks, seal_checks, standing, own_of};
 
-use rules::{
-    Activity, Answer, Asid, Ctc, Event, Gppn, Gvpn, Life, Mapping, Place, Setup, Span, both,
-};
+use rules::{Activity, Asid, Ctc, Event, Gppn, Gvpn, Life, Place, Refusal, Setup};
 
 // The order of the checks on records.
 #[tactic(auto, unfolding(crate::specs::Stages::record_checks, rules::specs::Answers::check, rules::specs::Answers::first_of))]
-fn fit(condition: bool, live: bool, mapped: bool) -> u8
-    ensures { result ≡ first_of (record_checks condition live mapped) }
+fn fit(condition: bool, live: bool, mapped: bool) -> Result<(), Refusal>
+    ensures { number_in result ≡ first_of (record_checks condition live mapped) }
 {
     if !condition {
-        return Answer::WRONG_CONDITION;
+        return Err(Refusal::WrongCondition);
     }
     if !live {
-        return Answer::STOPPED;
+        return Err(Refusal::Stopped);
     }
     if !mapped {
-        return Answer::NOT_MAPPED;
+        return Err(Refusal::NotMapped);
     }
-    Answer::DONE
+    Ok(())
 }
 
 // Whether so many signatures are left.
 #[tactic(auto, unfolding(crate::specs::Stages::seal_checks, rules::specs::Answers::check, rules::specs::Answers::first_of))]
-fn spare(setup: Setup, used: u16, takes: usize) -> u8
+fn spare(setup: Setup, used: u16, takes: usize) -> Result<(), Refusal>
     requires { takes ≤ max_signatures }
-    ensures { result ≡ first_of (seal_checks setup used takes) }
+    ensures { number_in result ≡ first_of (seal_checks setup used takes) }
 {
     if setup.signatures < (used as usize) + takes {
-        Answer::NO_SIGNATURE
+        Err(Refusal::NoSignature)
     } else {
-        Answer::DONE
+        Ok(())
     }
 }
 
@@ -50,6 +50,7 @@ fn takes_named(setup: Setup, tables: &[u16], f: Gppn) -> u8
     ensures { result ≡ takes_named setup (tables_in setup.pages tables.now)
         (names_of (tables_in setup.pages tables.now) f) }
 {
+    // The word itself, 0 or one more than the page's number, as `core_seal::seal` reads it.
     let named = core_tables::slot_at(tables, f.0 as usize);
     if named == 0 {
         return 0;
@@ -59,47 +60,52 @@ fn takes_named(setup: Setup, tables: &[u16], f: Gppn) -> u8
 }
 
 // begin: its domain is Empty and its context Free.
-pub fn begin(setup: Setup, tables: &[u16], d: Asid, c: Ctc) -> u8
+#[tactic(auto, using(crate::proofs::Asked::begin))]
+pub fn begin(setup: Setup, tables: &[u16], d: Asid, c: Ctc) -> Result<(), Refusal>
     requires { (Tested setup tables.now) × (d.0 < setup.domains) × (c.0 < setup.contexts) }
-    ensures { result ≡ standing setup (tables_in setup.pages tables.now) (Event.Begin d c) }
+    ensures { number_in result ≡ standing setup (tables_in setup.pages tables.now) (Event.Begin d c) }
 {
     let life = core_tables::life_at(tables, d.0 as usize);
     let activity = core_tables::activity_at(tables, c.0 as usize);
-    fit(both(life.is_empty(), activity.is_free()), true, true)
+    fit(life.is_empty() && activity.is_free(), true, true)
 }
 
 // end, map: the domain is not Empty.
-pub fn end(setup: Setup, tables: &[u16], d: Asid) -> u8
+#[tactic(auto, using(crate::proofs::Asked::end))]
+pub fn end(setup: Setup, tables: &[u16], d: Asid) -> Result<(), Refusal>
     requires { (Tested setup tables.now) × (d.0 < setup.domains) }
-    ensures { result ≡ standing setup (tables_in setup.pages tables.now) (Event.End d) }
+    ensures { number_in result ≡ standing setup (tables_in setup.pages tables.now) (Event.End d) }
 {
     let life = core_tables::life_at(tables, d.0 as usize);
     fit(!life.is_empty(), true, true)
 }
 
 // unmap: the domain is not Empty, and the page is mapped.
-pub fn unmap(setup: Setup, tables: &[u16], d: Asid, v: Gvpn) -> u8
+#[tactic(auto, using(crate::proofs::Asked::unmapped))]
+pub fn unmap(setup: Setup, tables: &[u16], d: Asid, v: Gvpn) -> Result<(), Refusal>
     requires { (Tested setup tables.now) × (d.0 < setup.domains) × (v.0 < setup.pages) }
-    ensures { result ≡ standing setup (tables_in setup.pages tables.now) (Event.Unmap d v) }
+    ensures { number_in result ≡ standing setup (tables_in setup.pages tables.now) (Event.Unmap d v) }
 {
     let life = core_tables::life_at(tables, d.0 as usize);
     let mapping = core_tables::mapping_at(tables, setup.page_number(d, v));
-    fit(!life.is_empty(), true, mapping.is_mapped())
+    fit(!life.is_empty(), true, mapping.is_some())
 }
 
 // kernel read, kernel write: what is Clear in the frame is sealed.
-pub fn kernel(setup: Setup, tables: &[u16], f: Gppn, x: Span) -> u8
+#[tactic(auto, using(crate::proofs::Asked::kernel))]
+pub fn kernel(setup: Setup, tables: &[u16], f: Gppn) -> Result<(), Refusal>
     requires { (Tested setup tables.now) × (f.0 < setup.frames) }
-    ensures { result ≡ standing setup (tables_in setup.pages tables.now) (Event.KernelRead f x) }
+    ensures { (x : Span) → number_in result ≡ standing setup (tables_in setup.pages tables.now) (Event.KernelRead f x) }
 {
     let takes = takes_named(setup, tables, f) as usize;
     spare(setup, core_tables::used_at(tables), takes)
 }
 
 // resume: the context is Kept in the domain, which is not Stopped.
-pub fn resume(setup: Setup, tables: &[u16], d: Asid, c: Ctc) -> u8
+#[tactic(auto, using(crate::proofs::Asked::resume))]
+pub fn resume(setup: Setup, tables: &[u16], d: Asid, c: Ctc) -> Result<(), Refusal>
     requires { (Tested setup tables.now) × (d.0 < setup.domains) × (c.0 < setup.contexts) }
-    ensures { result ≡ standing setup (tables_in setup.pages tables.now) (Event.Resume d c) }
+    ensures { number_in result ≡ standing setup (tables_in setup.pages tables.now) (Event.Resume d c) }
 {
     let life = core_tables::life_at(tables, d.0 as usize);
     let activity = core_tables::activity_at(tables, c.0 as usize);
@@ -107,25 +113,27 @@ pub fn resume(setup: Setup, tables: &[u16], d: Asid, c: Ctc) -> u8
 }
 
 // spawn: the context is Running, in a domain that is not Stopped, and the other is Free.
-pub fn spawn(setup: Setup, tables: &[u16], c: Ctc, u: Ctc) -> u8
+#[tactic(auto, using(crate::proofs::Asked::spawn))]
+pub fn spawn(setup: Setup, tables: &[u16], c: Ctc, u: Ctc) -> Result<(), Refusal>
     requires { (Tested setup tables.now) × (c.0 < setup.contexts) × (u.0 < setup.contexts) }
-    ensures { result ≡ standing setup (tables_in setup.pages tables.now) (Event.Spawn c u) }
+    ensures { number_in result ≡ standing setup (tables_in setup.pages tables.now) (Event.Spawn c u) }
 {
     let activity = core_tables::activity_at(tables, c.0 as usize);
     let home = activity.domain();
     let life = core_tables::life_at(tables, home.0 as usize);
     let other = core_tables::activity_at(tables, u.0 as usize);
     fit(
-        both(activity.is_running(), other.is_free()),
+        activity.is_running() && other.is_free(),
         !life.is_stopped(),
         true,
     )
 }
 
 // leave, trap: the context is Running, in a domain that is not Stopped.
-pub fn leave(setup: Setup, tables: &[u16], c: Ctc) -> u8
+#[tactic(auto, using(crate::proofs::Asked::leave))]
+pub fn leave(setup: Setup, tables: &[u16], c: Ctc) -> Result<(), Refusal>
     requires { (Tested setup tables.now) × (c.0 < setup.contexts) }
-    ensures { result ≡ standing setup (tables_in setup.pages tables.now) (Event.Leave c) }
+    ensures { number_in result ≡ standing setup (tables_in setup.pages tables.now) (Event.Leave c) }
 {
     let activity = core_tables::activity_at(tables, c.0 as usize);
     let home = activity.domain();
@@ -138,7 +146,7 @@ pub fn leave(setup: Setup, tables: &[u16], c: Ctc) -> u8
 pub struct Own {
     pub activity: Activity,
     pub life: Life,
-    pub mapping: Mapping,
+    pub mapping: Option<Gppn>,
     pub place: Place,
 }
 
@@ -162,38 +170,40 @@ fn own_records(setup: Setup, tables: &[u16], c: Ctc, v: Gvpn) -> Own
 }
 
 // cloak: the page is Public, and what is Clear in the mapped frame is sealed.
-pub fn cloak(setup: Setup, tables: &[u16], c: Ctc, v: Gvpn) -> u8
+#[tactic(auto, using(crate::proofs::Asked::cloaked))]
+pub fn cloak(setup: Setup, tables: &[u16], c: Ctc, v: Gvpn) -> Result<(), Refusal>
     requires { (Tested setup tables.now) × (c.0 < setup.contexts) × (v.0 < setup.pages) }
-    ensures { result ≡ standing setup (tables_in setup.pages tables.now) (Event.Cloak c v) }
+    ensures { number_in result ≡ standing setup (tables_in setup.pages tables.now) (Event.Cloak c v) }
 {
-    let own = own_records(setup, tables, c, v);
-    let activity = own.activity;
-    let life = own.life;
-    let mapping = own.mapping;
-    let place = own.place;
-    let number = fit(
-        both(activity.is_running(), place.is_public()),
+    let Own {
+        activity,
+        life,
+        mapping,
+        place,
+    } = own_records(setup, tables, c, v);
+    fit(
+        activity.is_running() && place.is_public(),
         !life.is_stopped(),
-        mapping.is_mapped(),
-    );
-    if number != 0 {
-        return number;
-    }
-    let takes = takes_named(setup, tables, mapping.frame()) as usize;
+        mapping.is_some(),
+    )?;
+    let takes = takes_named(setup, tables, mapping.unwrap_or(Gppn(0))) as usize;
     spare(setup, core_tables::used_at(tables), takes)
 }
 
 // uncloak: the page is private; it needs no mapping.
-pub fn uncloak(setup: Setup, tables: &[u16], c: Ctc, v: Gvpn) -> u8
+#[tactic(auto, using(crate::proofs::Asked::uncloak))]
+pub fn uncloak(setup: Setup, tables: &[u16], c: Ctc, v: Gvpn) -> Result<(), Refusal>
     requires { (Tested setup tables.now) × (c.0 < setup.contexts) × (v.0 < setup.pages) }
-    ensures { result ≡ standing setup (tables_in setup.pages tables.now) (Event.Uncloak c v) }
+    ensures { number_in result ≡ standing setup (tables_in setup.pages tables.now) (Event.Uncloak c v) }
 {
-    let own = own_records(setup, tables, c, v);
-    let activity = own.activity;
-    let life = own.life;
-    let place = own.place;
+    let Own {
+        activity,
+        life,
+        place,
+        ..
+    } = own_records(setup, tables, c, v);
     fit(
-        both(activity.is_running(), !place.is_public()),
+        activity.is_running() && !place.is_public(),
         !life.is_stopped(),
         true,
     )
@@ -201,26 +211,21 @@ pub fn uncloak(setup: Setup, tables: &[u16], c: Ctc, v: Gvpn) -> u8
 
 // read, write: a page that is Clear in the mapped frame seals nothing; any other is sealed first where it is Clear, and
 // then what is Clear in the frame.
-pub fn touch(setup: Setup, tables: &[u16], c: Ctc, v: Gvpn, x: Span) -> u8
+#[tactic(auto, using(crate::proofs::Asked::touched))]
+pub fn touch(setup: Setup, tables: &[u16], c: Ctc, v: Gvpn) -> Result<(), Refusal>
     requires { (Tested setup tables.now) × (c.0 < setup.contexts) × (v.0 < setup.pages) }
-    ensures { result ≡ standing setup (tables_in setup.pages tables.now) (Event.Read c v x) }
+    ensures { (x : Span) → number_in result ≡ standing setup (tables_in setup.pages tables.now) (Event.Read c v x) }
 {
-    let own = own_records(setup, tables, c, v);
-    let activity = own.activity;
-    let life = own.life;
-    let mapping = own.mapping;
-    let place = own.place;
-    let number = fit(
-        activity.is_running(),
-        !life.is_stopped(),
-        mapping.is_mapped(),
-    );
-    if number != 0 {
-        return number;
-    }
-    let f = mapping.frame();
+    let Own {
+        activity,
+        life,
+        mapping,
+        place,
+    } = own_records(setup, tables, c, v);
+    fit(activity.is_running(), !life.is_stopped(), mapping.is_some())?;
+    let f = mapping.unwrap_or(Gppn(0));
     if place.is_clear_in(f) {
-        return 0;
+        return Ok(());
     }
     let takes = place.takes() as usize + takes_named(setup, tables, f) as usize;
     spare(setup, core_tables::used_at(tables), takes)

@@ -1,4 +1,4 @@
 -- The laws that the proofs of the functions cite.
 pub mod Spans
 pub mod Within
-pub mod Others
+pub mod Order

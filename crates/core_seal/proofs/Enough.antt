@@ -1,5 +1,6 @@
 -- Where the records agree and the signatures suffice, the first of the frames can be sealed, and then the next, and then
 -- the page can be unveiled.
+use Rattle.std.specs.Prelude.{Some}
 use mathlib.Core.Path.{◌≡◌, sym, subst, ◌∙◌}
 use mathlib.Core.Logic.{◌≢◌}
 use mathlib.Core.List.{List, [], ◌∷◌}
@@ -17,7 +18,6 @@ use Rattle.rules.specs.declared.Gppn.{Gppn}
 use Rattle.rules.specs.declared.Wear.{Wear}
 use Rattle.rules.specs.declared.Wear.TheVariants.{Dirty, Clean}
 use Rattle.rules.specs.declared.Place.TheVariants.{Clear, Sealed}
-use Rattle.rules.specs.declared.Named.TheVariants.{Page}
 use Rattle.core_tables.specs.Image.{tables_in, Canonical}
 use Rattle.core_seal.specs.Under.{during}
 use Rattle.core_seal.specs.Asked.{Signable, Sealable, Unveilable, Matched, Bringable}
@@ -26,7 +26,7 @@ use Rattle.core_seal.proofs.Kept.{Kept, seal_kept}
 
 module _ (s : Setup) (t : Tables) (f : Gppn) (ok : Matched s t) (inside : f.0 < s.frames)
     (enough : t.used + takes_named s t (names_of t f) ≤ s.signatures) where
-  signature_left : (d : Asid) (v : Gvpn) (h : Gppn) (w : Wear) → names_of t f ≡ Page d v → place_of s t d v ≡ Clear h w
+  signature_left : (d : Asid) (v : Gvpn) (h : Gppn) (w : Wear) → names_of t f ≡ Some (d, v) → place_of s t d v ≡ Clear h w
       → takes_named s t (names_of t f) ≡ takes w → sealed_with t.used w < s.signatures
   unfolding sealed_with takes
   signature_left d v h Dirty n e need = omega arith

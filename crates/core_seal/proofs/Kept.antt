@@ -1,5 +1,6 @@
 -- What a seal keeps: the records still agree, the lent memory has its lengths, the count of used signatures has grown by what the seal
 -- took, and every other frame's page takes what it took before. So a second frame can be sealed after a first.
+use Rattle.std.specs.Prelude.{Option, Some, None}
 use mathlib.Core.Path.{◌≡◌, refl, sym, ap, subst, ◌∙◌}
 use mathlib.Core.Logic.{◌≢◌, ◌⊎◌, inl, inr, ⊎_elim}
 use Prim.Native.Nat.{ℕ, ◌+◌, ◌≤◌, ◌<◌}
@@ -8,6 +9,7 @@ use native.Mathlib.Omega.{arith}
 use lib.ListN.{length, get_or, length-set}
 use lib.Dec.{T, eqb→eq}
 use Rattle.rules.specs.Sizes.{page_number, max_domains, max_pages}
+use Rattle.std.proofs.lemmas.Option.{none-some}
 use Rattle.rules.specs.Records.{Given, Machine, public_page, place_of, names_of, is_clear_in, with_used, with_place}
 use Rattle.rules.specs.Sealing.{sealed_with, takes, sealed_tables, seal_page, seal_at, seal_named, seal, takes_at, takes_named}
 use Rattle.rules.proofs.Parts.{length_with_part}
@@ -24,8 +26,6 @@ use Rattle.rules.specs.declared.Wear.{Wear}
 use Rattle.rules.specs.declared.Wear.TheVariants.{Dirty, Clean}
 use Rattle.rules.specs.declared.Place.{Place}
 use Rattle.rules.specs.declared.Place.TheVariants.{Public, Clear, Sealed}
-use Rattle.rules.specs.declared.Named.{Named}
-use Rattle.rules.specs.declared.Named.TheVariants.{Nothing, Page}
 use Rattle.rules.specs.Asked.{Limited}
 use Rattle.core_seal.specs.Asked.{Matched}
 
@@ -40,9 +40,6 @@ pub record Kept (s : Setup) (m n : Machine) (h : Gppn) : Type 0 where
   pub seals : n.seals ≤ m.seals + 1
   pub unveils : n.unveils ≡ m.unveils
 
-nothing_page : (n : Named) (d : Asid) (v : Gvpn) → n ≡ Nothing → n ≡ Page d v → ⊥
-nothing_page n d v a b = let z : ◌≡◌ {A = ℕ} 0 1 = cc in omega arith
-
 clear_sealed : (p : Place) (f : Gppn) (w : Wear) (k : ℕ) → p ≡ Sealed k → p ≡ Clear f w → ⊥
 clear_sealed p f w k a b = let z : ◌≡◌ {A = ℕ} 0 1 = cc in omega arith
 
@@ -54,7 +51,7 @@ same_sealed j k e = cc
 
 -- one page is sealed: the page d, v, which frame h names, Clear with wear w
 module _ (s : Setup) (t : Tables) (h : Gppn) (d : Asid) (v : Gvpn) (w : Wear) (home : Gppn) (size : Limited s)
-    (ok : Matched s t) (inside : h.0 < s.frames) (names : names_of t h ≡ Page d v) (place : place_of s t d v ≡ Clear home w) where
+    (ok : Matched s t) (inside : h.0 < s.frames) (names : names_of t h ≡ Some (d, v)) (place : place_of s t d v ≡ Clear home w) where
   abbrev after : Tables
   after = sealed_tables s h d v w t
 
@@ -84,23 +81,23 @@ module _ (s : Setup) (t : Tables) (h : Gppn) (d : Asid) (v : Gvpn) (w : Wear) (h
           inl (sym q ∙ ap (λ (n : ℕ). (get_or after.pages n public_page).place) one ∙ place_here)
       at (no ne) = inr (sym (place_there e x ne) ∙ q)
 
-  names_here : names_of after h ≡ Nothing
+  names_here : names_of after h ≡ None
   unfolding sealed_tables
   names_here =
-      names_same (with_place s d v (Sealed (sealed_with t.used w)) (with_used (t.used + takes w) t)) h Nothing
+      names_same (with_place s d v (Sealed (sealed_with t.used w)) (with_used (t.used + takes w) t)) h None
       (rw ok.frames_long (omega arith))
 
   names_there : (f : Gppn) → f.0 ≢ h.0 → names_of after f ≡ names_of t f
   unfolding sealed_tables
   names_there f ne =
-      names_other (with_place s d v (Sealed (sealed_with t.used w)) (with_used (t.used + takes w) t)) h Nothing f ne
+      names_other (with_place s d v (Sealed (sealed_with t.used w)) (with_used (t.used + takes w) t)) h None f ne
 
   used_after : after.used ≡ t.used + takes w
   unfolding sealed_tables
   used_after = refl
 
   -- another frame's page is another page
-  other_page : (f : Gppn) (e : Asid) (x : Gvpn) → f.0 < s.frames → f.0 ≢ h.0 → names_of t f ≡ Page e x
+  other_page : (f : Gppn) (e : Asid) (x : Gvpn) → f.0 < s.frames → f.0 ≢ h.0 → names_of t f ≡ Some (e, x)
       → page_number s e x ≢ page_number s d v
   other_page f e x hf ne n one =
       let same : place_of s t e x ≡ place_of s t d v = ap (λ (i : ℕ). (get_or t.pages i public_page).place) one in
@@ -113,15 +110,15 @@ module _ (s : Setup) (t : Tables) (h : Gppn) (d : Asid) (v : Gvpn) (w : Wear) (h
   signature_counted Dirty e = omega arith
   signature_counted (Clean k) e = omega (arith, ok.worn d v home k domain_in_holds page_in_holds e)
 
-  still_clear : (f : Gppn) (e : Asid) (x : Gvpn) → f.0 < s.frames → names_of after f ≡ Page e x
+  still_clear : (f : Gppn) (e : Asid) (x : Gvpn) → f.0 < s.frames → names_of after f ≡ Some (e, x)
       → (e.0 < s.domains) × (x.0 < s.pages) × T (is_clear_in f (place_of s after e x))
   still_clear f e x hf n = at (ℕ_discrete f.0 h.0)
     where
       at : Dec (f.0 ≡ h.0) → (e.0 < s.domains) × (x.0 < s.pages) × T (is_clear_in f (place_of s after e x))
       at (yes one) =
-          absurd (nothing_page (names_of after f) e x (ap (names_of after) (same_frame f h one) ∙ names_here) n)
+          absurd (none-some (e, x) (sym (ap (names_of after) (same_frame f h one) ∙ names_here) ∙ n))
       at (no ne) =
-          let before : names_of t f ≡ Page e x = sym (names_there f ne) ∙ n in
+          let before : names_of t f ≡ Some (e, x) = sym (names_there f ne) ∙ n in
           let c = ok.clear f e x hf before in
           let kept : place_of s t e x ≡ place_of s after e x = sym (place_there e x (other_page f e x hf ne before)) in
           (c.0, c.1, subst (λ (p : Place). T (is_clear_in f p)) kept c.2)
@@ -153,9 +150,9 @@ module _ (s : Setup) (t : Tables) (h : Gppn) (d : Asid) (v : Gvpn) (w : Wear) (h
   unfolding takes_named
   others_take f hf ne = ap (takes_named s after) (names_there f ne) ∙ at (names_of t f) refl
     where
-      at : (n : Named) → names_of t f ≡ n → takes_named s after n ≡ takes_named s t n
-      at Nothing e = refl
-      at (Page e x) n = ap takes_at (place_there e x (other_page f e x hf ne n))
+      at : (n : Option (Asid × Gvpn)) → names_of t f ≡ n → takes_named s after n ≡ takes_named s t n
+      at None e = refl
+      at (Some (e, x)) n = ap takes_at (place_there e x (other_page f e x hf ne n))
 
 -- a seal, by what the frame names and by the page's place
 module _ (g : Given) (m : Machine) (h : Gppn) (size : Limited g.setup) (ok : Matched g.setup m.tables)
@@ -172,7 +169,7 @@ module _ (g : Given) (m : Machine) (h : Gppn) (size : Limited g.setup) (ok : Mat
         unveils = refl;
       }
 
-  place_kept : (d : Asid) (v : Gvpn) → names_of m.tables h ≡ Page d v
+  place_kept : (d : Asid) (v : Gvpn) → names_of m.tables h ≡ Some (d, v)
       → (p : Place) → place_of g.setup m.tables d v ≡ p → Kept g.setup m (seal_at g h d v p m) h
   unfolding seal_at seal_page takes_named takes_at
   place_kept d v n Public e = none_kept (rw (n, e))
@@ -193,6 +190,6 @@ module _ (g : Given) (m : Machine) (h : Gppn) (size : Limited g.setup) (ok : Mat
   unfolding seal seal_named takes_named
   seal_kept = at (names_of m.tables h) refl
     where
-      at : (n : Named) → names_of m.tables h ≡ n → Kept g.setup m (seal_named g h n m) h
-      at Nothing n = none_kept (rw n)
-      at (Page d v) n = place_kept d v n (place_of g.setup m.tables d v) refl
+      at : (n : Option (Asid × Gvpn)) → names_of m.tables h ≡ n → Kept g.setup m (seal_named g h n m) h
+      at None n = none_kept (rw n)
+      at (Some (d, v)) n = place_kept d v n (place_of g.setup m.tables d v) refl

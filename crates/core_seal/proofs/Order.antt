@@ -1,10 +1,10 @@
 -- Bringing in, by the page's place before and after the seals: which frames are sealed first, and whether the page is then
 -- unveiled.
 use mathlib.Core.Path.{◌≡◌, refl, ap, ◌∙◌}
-use mathlib.Core.Logic.{◌≢◌}
 use mathlib.Core.List.{List, [], ◌∷◌}
 use Prim.Native.Nat.{ℕ}
-use borrow.Author.Tests.{eq-eqb, ne_eqb}
+use mathlib.Core.Bool.{true, false}
+use lib.Dec.{eqb}
 use Rattle.rules.specs.Records.{Given, Machine, place_of}
 use Rattle.rules.specs.Sealing.{Effect, done, seal, seal_all, unveil, sealed_first, bring_in_at, bring_in}
 use Rattle.rules.specs.declared.Asid.{Asid}
@@ -23,13 +23,13 @@ first_other f (Clear h w) o = absurd (o h w refl)
 first_other f (Sealed k) o = refl
 
 module _ (f h : Gppn) (w : Wear) {p : Place} (clear : p ≡ Clear h w) where
-  pub first_home : h.0 ≡ f.0 → sealed_first f p ≡ []
+  pub first_home : eqb h.0 f.0 ≡ true → sealed_first f p ≡ []
   unfolding sealed_first
-  first_home e = rw (clear, eq-eqb h.0 f.0 e)
+  first_home e = rw (clear, e)
 
-  pub first_away : h.0 ≢ f.0 → sealed_first f p ≡ h ∷ f ∷ []
+  pub first_away : eqb h.0 f.0 ≡ false → sealed_first f p ≡ h ∷ f ∷ []
   unfolding sealed_first
-  first_away e = rw (clear, ne_eqb h.0 f.0 e)
+  first_away e = rw (clear, e)
 
 -- where `let Place::Sealed(..) = p else` leaves p
 abbrev pub NotSealed : Place → Type 0

@@ -1,8 +1,10 @@
 -- What the steps of a seal and of an unveiling leave is what the rules say: each law takes what the calls of a function
 -- ensure, and gives the function's own equation.
+use Rattle.std.specs.Prelude.{Option, Some, None}
 use mathlib.Core.Path.{◌≡◌, refl, sym, ap, ◌∙◌}
 use mathlib.Core.Bool.{Bool, true, false, cond}
 use mathlib.Core.List.{List}
+use Rattle.std.specs.Prelude.{Ok, Err}
 use Prim.Native.Nat.{ℕ, ◌+◌}
 use lib.ListN.{get_or}
 use Rattle.rules.specs.Bytes.{part, with_part, same_bytes}
@@ -11,7 +13,6 @@ use Rattle.rules.specs.Records.{Given, Machine, given, public_page, place_of, na
 use Rattle.rules.specs.Sealing.{sealed_with, takes, signature, sealed_tables, seal_page, seal_at, seal_named, seal, unveiled_tables}
 use Rattle.rules.specs.Sealing.{unveiled, unveil, done, failed}
 use Rattle.rules.specs.declared.Setup.{Setup}
-use Rattle.rules.specs.declared.Mapping.{Mapping}
 use Rattle.rules.specs.declared.Registers.{Registers}
 use Rattle.rules.specs.declared.Asid.{Asid}
 use Rattle.rules.specs.declared.Gvpn.{Gvpn}
@@ -21,7 +22,6 @@ use Rattle.rules.specs.declared.Wear.TheVariants.{Clean}
 use Rattle.rules.specs.declared.Life.TheVariants.{Stopped}
 use Rattle.rules.specs.declared.Place.{Place}
 use Rattle.rules.specs.declared.Place.TheVariants.{Public, Clear, Sealed}
-use Rattle.rules.specs.declared.Named.TheVariants.{Nothing, Page}
 use Rattle.core_tables.specs.Image.{tables_in}
 use Rattle.core_tables.specs.Put.{Put, set_page, set_names, set_life, set_used}
 use Rattle.core_seal.specs.Under.{during, effect}
@@ -34,11 +34,11 @@ place_read s x d v es er = er ∙ ap (λ (n : ℕ). (get_or (tables_in s.pages x
 
 -- by what the frame names
 module _ (g : Given) (f : Gppn) (m : Machine) where
-  pub seal_unnamed : names_of m.tables f ≡ Nothing → m ≡ seal g f m
+  pub seal_unnamed : names_of m.tables f ≡ None → m ≡ seal g f m
   unfolding seal seal_named
   seal_unnamed e = rw e
 
-  pub seal_named_holds : (d : Asid) (v : Gvpn) {n : Machine} → names_of m.tables f ≡ Page d v
+  pub seal_named_holds : (d : Asid) (v : Gvpn) {n : Machine} → names_of m.tables f ≡ Some (d, v)
       → n ≡ seal_at g f d v (place_of g.setup m.tables d v) m → n ≡ seal g f m
   unfolding seal seal_named
   seal_named_holds d v e sealed = rw e sealed
@@ -56,7 +56,7 @@ seal_none g f d v (Sealed k) m o = refl
 
 module _ (s : Setup) (supply x frames store : List ℕ) (work : Work) (f : Gppn) (d : Asid) (v : Gvpn) (saved : List Registers) where
   -- the mapping of the record that stands at a slot
-  abbrev mapping_at : ℕ → Mapping
+  abbrev mapping_at : ℕ → Option Gppn
   mapping_at slot = (get_or (tables_in s.pages x).pages slot public_page).mapping
 
   pub seal_clear : (h : Gppn) (w : Wear) {slot k used : ℕ} {y z frames' store' : List ℕ}
@@ -65,7 +65,7 @@ module _ (s : Setup) (supply x frames store : List ℕ) (work : Work) (f : Gppn)
       → frames' ≡ with_part s.size f.0 (part s.size k supply) frames
       → store' ≡ with_part s.size slot (part s.size f.0 frames) store
       → used ≡ (tables_in s.pages x).used + takes w
-      → Put s.pages x y (set_names f.0 Nothing
+      → Put s.pages x y (set_names f.0 None
       (set_page slot (record { mapping = mapping_at slot; place = Sealed k }) (tables_in s.pages x)))
       → Put s.pages y z (set_used used (tables_in s.pages y))
       → during s (record { seals = work.seals + 1; unveils = work.unveils }) saved z frames' store'
@@ -77,15 +77,15 @@ module _ (s : Setup) (supply x frames store : List ℕ) (work : Work) (f : Gppn)
       (eb : b ≡ same_bytes (part s.size f.0 frames) (part s.size k supply))
       (ef : frames' ≡ cond b (with_part s.size f.0 (part s.size slot store) frames) frames) where
     pub unveil_done : {y : List ℕ} → b ≡ true
-        → Put s.pages x y (set_names f.0 (Page d v)
+        → Put s.pages x y (set_names f.0 (Some (d, v))
         (set_page slot (record { mapping = mapping_at slot; place = Clear f (Clean k) }) (tables_in s.pages x)))
-        → effect s (record { work = record { seals = work.seals; unveils = work.unveils + 1 }; number = 0 }) saved y frames' store
+        → effect s (Ok (record { seals = work.seals; unveils = work.unveils + 1 })) saved y frames' store
         ≡ unveil (given s supply) f d v k (during s work saved x frames store)
     unfolding unveil unveiled unveiled_tables signature done
     unveil_done e p = rw (p.tables, ef, es, sym eb ∙ e, e)
 
     pub unveil_failed : {y : List ℕ} → b ≡ false → Put s.pages x y (set_life d.0 Stopped (tables_in s.pages x))
-        → effect s (record { work = work; number = 8 }) saved y frames' store
+        → effect s (Err (record { 0 = work })) saved y frames' store
         ≡ unveil (given s supply) f d v k (during s work saved x frames store)
     unfolding unveil signature failed
     unveil_failed e p = rw (p.tables, ef, sym eb ∙ e, e)

@@ -1,6 +1,6 @@
 -- What sealing, unveiling and bringing in ask of the setup, the lent memory and the tables. All of it follows where
 -- the rules accept a machine and count enough signatures (proofs/Granted.antt).
-use Rattle.std.specs.Prelude.{◌≡◌, List, ℕ, ◌+◌, ◌*◌, ◌≤◌, ◌<◌, length, T}
+use Rattle.std.specs.Prelude.{◌≡◌, List, ℕ, ◌+◌, ◌*◌, ◌≤◌, ◌<◌, length, T, Some}
 use Rattle.rules.specs.Sizes.{max_domains, max_pages, max_frames}
 use Rattle.rules.specs.Records.{names_of, place_of, is_clear_in}
 use Rattle.rules.specs.Sealing.{sealed_with, needed}
@@ -12,7 +12,6 @@ use Rattle.rules.specs.declared.Gppn.{Gppn}
 use Rattle.rules.specs.declared.Wear.{Wear}
 use Rattle.rules.specs.declared.Wear.TheVariants.{Clean}
 use Rattle.rules.specs.declared.Place.TheVariants.{Clear, Sealed}
-use Rattle.rules.specs.declared.Named.TheVariants.{Page}
 use Rattle.rules.specs.Asked.{Limited}
 use Rattle.core_tables.specs.Image.{image_words, tables_in, Canonical}
 use Rattle.core_seal.specs.declared.Work.{Work}
@@ -28,9 +27,9 @@ pub record Lent (s : Setup) (words frames store supply : List ℕ) : Type 0 wher
 
 -- the page that frame f names is one of the setup's, and there is a signature to seal it with
 pub record Signable (s : Setup) (t : Tables) (f : Gppn) : Type 0 where
-  pub domain : (d : Asid) (v : Gvpn) → names_of t f ≡ Page d v → d.0 < s.domains
-  pub page : (d : Asid) (v : Gvpn) → names_of t f ≡ Page d v → v.0 < s.pages
-  pub signature : (d : Asid) (v : Gvpn) (h : Gppn) (w : Wear) → names_of t f ≡ Page d v → place_of s t d v ≡ Clear h w
+  pub domain : (d : Asid) (v : Gvpn) → names_of t f ≡ Some (d, v) → d.0 < s.domains
+  pub page : (d : Asid) (v : Gvpn) → names_of t f ≡ Some (d, v) → v.0 < s.pages
+  pub signature : (d : Asid) (v : Gvpn) (h : Gppn) (w : Wear) → names_of t f ≡ Some (d, v) → place_of s t d v ≡ Clear h w
       → sealed_with t.used w < s.signatures
 
 pub record Sealable (s : Setup) (work : Work) (words frames store supply : List ℕ) (f : Gppn) : Type 0 where
@@ -54,7 +53,7 @@ pub record Matched (s : Setup) (t : Tables) : Type 0 where
   pub pages_long : length t.pages ≡ max_domains * max_pages
   pub frames_long : length t.frames ≡ max_frames
   -- the page that a frame names is Clear in it
-  pub clear : (f : Gppn) (d : Asid) (v : Gvpn) → f.0 < s.frames → names_of t f ≡ Page d v
+  pub clear : (f : Gppn) (d : Asid) (v : Gvpn) → f.0 < s.frames → names_of t f ≡ Some (d, v)
       → (d.0 < s.domains) × (v.0 < s.pages) × T (is_clear_in f (place_of s t d v))
   -- a page is Clear in a frame of the setup's
   pub held : (d : Asid) (v : Gvpn) (f : Gppn) (w : Wear) → d.0 < s.domains → v.0 < s.pages

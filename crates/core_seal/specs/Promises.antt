@@ -1,6 +1,6 @@
 -- The contracts of sealing, unveiling and bringing in, over a function's own parameters: whatever the saved registers, what is left is what
 -- the rule says, and of a canonical image a canonical one is left.
-use Rattle.std.specs.Prelude.{List, ℕ}
+use Rattle.std.specs.Prelude.{List, ℕ, Result}
 use Rattle.rules.specs.Records.{given, place_of}
 use Rattle.rules.specs.Sealing.{seal, seal_all, unveil, sealed_first, bring_in}
 use Rattle.rules.specs.declared.Setup.{Setup}
@@ -12,7 +12,7 @@ use Rattle.core_tables.specs.Image.{tables_in}
 use Rattle.core_tables.specs.Lent.{Slice, MutSlice}
 use Rattle.core_seal.specs.Under.{during, effect, Leaves}
 use Rattle.core_seal.specs.declared.Work.{Work}
-use Rattle.core_seal.specs.declared.Brought.{Brought}
+use Rattle.core_seal.specs.declared.NotUnveiled.{NotUnveiled}
 
 -- what is Clear in frame f is sealed
 abbrev pub Seals : Setup → Work → MutSlice → MutSlice → MutSlice → Slice → Gppn → Work → Type 0
@@ -23,7 +23,7 @@ Seals s work tables frames store supply f r =
     (seal (given s supply.entry.now) f (during s work z tables.entry.now frames.entry.now store.entry.now))
 
 -- the page d, v, Sealed with signature k, is unveiled at frame f
-abbrev pub Unveils : Setup → Work → MutSlice → MutSlice → Slice → Slice → Gppn → Asid → Gvpn → ℕ → Brought → Type 0
+abbrev pub Unveils : Setup → Work → MutSlice → MutSlice → Slice → Slice → Gppn → Asid → Gvpn → ℕ → Result Work NotUnveiled → Type 0
 Unveils s work tables frames store supply f d v k r =
     (z : List Registers)
     → Leaves s.pages tables.entry.now tables.exit.now
@@ -32,7 +32,7 @@ Unveils s work tables frames store supply f d v k r =
     (during s work z tables.entry.now frames.entry.now store.entry.now))
 
 -- what is Clear in frame f is sealed, then the page d, v is brought in there
-abbrev pub SealsAndUnveils : Setup → Work → MutSlice → MutSlice → MutSlice → Slice → Gppn → Asid → Gvpn → Brought → Type 0
+abbrev pub SealsAndUnveils : Setup → Work → MutSlice → MutSlice → MutSlice → Slice → Gppn → Asid → Gvpn → Result Work NotUnveiled → Type 0
 SealsAndUnveils s work tables frames store supply f d v r =
     (z : List Registers)
     → Leaves s.pages tables.entry.now tables.exit.now
@@ -41,7 +41,7 @@ SealsAndUnveils s work tables frames store supply f d v r =
     (seal (given s supply.entry.now) f (during s work z tables.entry.now frames.entry.now store.entry.now)))
 
 -- the frames that come first are sealed, then the page d, v is brought in at frame f
-abbrev pub BringsIn : Setup → Work → MutSlice → MutSlice → MutSlice → Slice → Gppn → Asid → Gvpn → Brought → Type 0
+abbrev pub BringsIn : Setup → Work → MutSlice → MutSlice → MutSlice → Slice → Gppn → Asid → Gvpn → Result Work NotUnveiled → Type 0
 BringsIn s work tables frames store supply f d v r =
     (z : List Registers)
     → Leaves s.pages tables.entry.now tables.exit.now

@@ -1,4 +1,5 @@
-// What sealing and unveiling are made of: the number of the signature, and the bytes that move between frames and store.
+// What sealing and unveiling are made of: the number of the signature, and the bytes that move between frames and store. Each part of
+// what is lent comes with the number of its page: a struct of the six would be made for one call.
 #![tactic(auto)]
 
 ghost use Rattle.std.specs.Prelude.{◌≡◌, ◌+◌, ◌*◌, ◌<◌, ◌≤◌, length};
@@ -32,6 +33,7 @@ pub fn used_after(used: u16, wear: Wear) -> u16
 }
 
 // Frame f is copied to its page's slot, and filled with signature k.
+#[tactic(auto, using(rules::proofs::Parts::length_part))]
 pub fn seal_bytes(
     size: usize,
     frames: &mut [u8],
@@ -51,6 +53,7 @@ pub fn seal_bytes(
 }
 
 // Where frame f holds signature k, the slot is copied over it: whether it did.
+#[tactic(auto, using(rules::proofs::Parts::length_part))]
 pub fn unveil_bytes(
     size: usize,
     frames: &mut [u8],
@@ -64,9 +67,7 @@ pub fn unveil_bytes(
         × (k * size + size ≤ length supply.now) }
     ensures { UnveiledBytes size f slot k supply.now store.now frames.old result frames.new }
 {
-    let start = k * size;
-    let end = start + size;
-    if core_bytes::same_page(frames, size, f, &supply[start..end]) {
+    if core_bytes::same_page(frames, size, f, core_bytes::page(supply, size, k)) {
         core_bytes::copy_page(frames, size, f, core_bytes::page(store, size, slot));
         true
     } else {

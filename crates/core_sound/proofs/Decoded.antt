@@ -1,4 +1,5 @@
 -- What the rules' tests say of records that are decoded from words: tests of the words.
+use Rattle.std.specs.Prelude.{Some, None}
 use mathlib.Core.Path.{◌≡◌, refl, ◌∙◌}
 use mathlib.Core.Bool.{Bool, true, false, ◌&&◌, ◌||◌, cond}
 use Prim.Native.Nat.{ℕ, ◌-◌, ◌/◌, ◌%◌}
@@ -15,11 +16,9 @@ use Rattle.rules.specs.declared.Gppn.{Gppn}
 use Rattle.rules.specs.declared.Life.TheVariants.{Empty, Live, Stopped}
 use Rattle.rules.specs.declared.TrapKind.TheVariants.{Interrupt, Call}
 use Rattle.rules.specs.declared.Activity.TheVariants.{Free, Running, Kept}
-use Rattle.rules.specs.declared.Mapping.TheVariants.{Unmapped, Mapped}
 use Rattle.rules.specs.declared.Wear.{Wear}
 use Rattle.rules.specs.declared.Wear.TheVariants.{Dirty, Clean}
 use Rattle.rules.specs.declared.Place.TheVariants.{Public, Clear, Sealed}
-use Rattle.rules.specs.declared.Named.TheVariants.{Nothing, Page}
 use Rattle.core_tables.specs.Words.{life_in, activity_as, activity_in, names_in, mapping_in, wear_in, hidden_in, place_in}
 
 -- a domain's life
@@ -61,7 +60,7 @@ module _ (s : Setup) (t : Tables) where
   context_sound_holds w = acts (eqb w 0) (eqb ((w - 1) % 3) 0) (eqb ((w - 1) % 3) 1) (domain_here w)
 
 -- a page's mapping
-maps : (a : Bool) (f : Gppn) → is_unmapped (cond a Unmapped (Mapped f)) ≡ a
+maps : (a : Bool) (f : Gppn) → is_unmapped (cond a None (Some f)) ≡ a
 maps true f = refl
 maps false f = refl
 
@@ -69,7 +68,7 @@ pub unmapped_test : (m : ℕ) → is_unmapped (mapping_in m) ≡ eqb m 0
 unfolding mapping_in
 unmapped_test m = maps (eqb m 0) (record { 0 = (m - 1) % 256 })
 
-maps_sound : (s : Setup) (a : Bool) (f : Gppn) → mapping_sound s (cond a Unmapped (Mapped f)) ≡ a || frame_in s f
+maps_sound : (s : Setup) (a : Bool) (f : Gppn) → mapping_sound s (cond a None (Some f)) ≡ a || frame_in s f
 unfolding mapping_sound
 maps_sound s true f = refl
 maps_sound s false f = refl
@@ -128,7 +127,7 @@ unfolding place_in hidden_in
 clear_test f h k = clears f (eqb h 0) (eqb k 0) (k - 1) (record { 0 = (h - 1) % 256 }) (wear_in k)
 
 -- what a frame names
-nones : (a : Bool) (d : Asid) (p : Gvpn) → names_none (cond a Nothing (Page d p)) ≡ a
+nones : (a : Bool) (d : Asid) (p : Gvpn) → names_none (cond a None (Some (d, p))) ≡ a
 nones true d p = refl
 nones false d p = refl
 
@@ -137,7 +136,7 @@ unfolding names_in
 none_test v w = nones (eqb w 0) (record { 0 = (w - 1) / v % 256 }) (record { 0 = (w - 1) % v })
 
 pages : (d : Asid) (p : Gvpn) (a : Bool) (e : Asid) (q : Gvpn)
-    → names_page d p (cond a Nothing (Page e q)) ≡ cond a false (eqb e.0 d.0 && (eqb q.0 p.0 && true))
+    → names_page d p (cond a None (Some (e, q))) ≡ cond a false (eqb e.0 d.0 && (eqb q.0 p.0 && true))
 unfolding all_of
 pages d p true e q = refl
 pages d p false e q = refl
@@ -148,7 +147,7 @@ unfolding names_in
 page_test d p v w = pages d p (eqb w 0) (record { 0 = (w - 1) / v % 256 }) (record { 0 = (w - 1) % v })
 
 names_sounds : (s : Setup) (t : Tables) (f : Gppn) (a : Bool) (d : Asid) (p : Gvpn)
-    → names_sound s t f (cond a Nothing (Page d p))
+    → names_sound s t f (cond a None (Some (d, p)))
     ≡ cond a true (domain_in s d && (page_in s p && (is_clear_in f (place_of s t d p) && true)))
 unfolding names_sound all_of
 names_sounds s t f true d p = refl

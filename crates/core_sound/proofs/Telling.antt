@@ -1,11 +1,13 @@
 -- Laws of what a loop that gathers with | tells.
-use mathlib.Core.Path.{◌≡◌, refl}
+use mathlib.Core.Path.{◌≡◌, refl, subst, ◌∙◌}
 use Prim.Native.Nat.{ℕ, ◌+◌, ◌-◌, ◌*◌, ◌≤◌, ◌<◌}
 use native.Mathlib.Omega.{arith}
 use native.Mathlib.Decide.{dec_lt}
 use lib.Bits.{bit_or, bit_xor, or_add_and, xor_add_and, xor_self, and_le_l, and_le_r}
 use mathlib.Core.List.{List}
-use lib.ListN.{get_or}
+use lib.ListN.{length, get_or, take, drop, length-take, length-drop}
+use lib.Seq.{get_or-drop}
+use Rattle.std.proofs.lemmas.List.{get_or-take}
 use Rattle.rules.specs.Sizes.{max_domains, max_contexts, max_frames}
 use Rattle.rules.specs.declared.Setup.{Setup}
 use Rattle.core_tables.specs.Image.{word_at, domains_at, contexts_at, frames_at, mapped_at, home_at, sign_at, used_at, max_entries}
@@ -56,6 +58,24 @@ module _ (P : ℕ → Type 0) (a : ℕ) where
       by p k l h (yes q) = p.0 k l q
       by p k l h (no q) = let same : k ≡ i = omega arith in rw same p.1
 
+-- a loop over a part's words: a turn, and the end
+module _ (P : ℕ → Type 0) (x : List ℕ) (a n i : ℕ) {any : ℕ} where
+  pub word_more : {w : ℕ} → i < length (take n (drop a x)) → Tells (Each (λ k. P (word_at x k)) a (a + i)) any
+      → Tells (P (get_or (take n (drop a x)) i 0)) w → Tells (Each (λ k. P (word_at x k)) a (a + (i + 1))) (bit_or any w)
+  word_more {w} inside old new =
+      let next : a + (i + 1) ≡ a + i + 1 = omega arith in
+      let within : i < n = omega (arith, length-take n (drop a x)) in
+      let there : get_or (take n (drop a x)) i 0 ≡ word_at x (a + i) =
+      get_or-take n (drop a x) i 0 within ∙ get_or-drop a x i 0 in
+      rw next
+      (each_more (λ k. P (word_at x k)) a (a + i) (omega arith) old (subst (λ v. Tells (P v) w) there new))
+
+  pub words_all : {e : ℕ} → a + n ≡ e → e ≤ length x → i ≤ length (take n (drop a x)) → length (take n (drop a x)) ≤ i
+      → Tells (Each (λ k. P (word_at x k)) a (a + i)) any → Tells (Each (λ k. P (word_at x k)) a e) any
+  words_all {e} end fits low high t =
+      let all : a + i ≡ e = omega (arith, length-take n (drop a x), length-drop a x) in
+      rw all at t
+
 -- a run of n from a on, counted from 0
 pub counted : {P : ℕ → Type 0} {a n e r : ℕ} → e ≡ a + n → Tells (Each P a e) r → Tells ((i : ℕ) → i < n → P (a + i)) r
 counted {P} {a} {n} {e} q t =
@@ -89,10 +109,10 @@ module _ (x : List ℕ) (start : ℕ) where
 
 -- a page as freshly started, and so many of a domain
 pub untouched_tells : (x : List ℕ) (i : ℕ)
-    → Tells (Untouched x i) (bit_or (word_at x (mapped_at + i)) (bit_or (word_at x (home_at + i)) (word_at x (sign_at + i))))
+    → Tells (Untouched x i) (bit_or (bit_or (word_at x (mapped_at + i)) (word_at x (home_at + i))) (word_at x (sign_at + i)))
 untouched_tells x i =
-    told (λ p. record { mapped = p.0; home = p.1.0; sign = p.1.1 }) (λ u. (u.mapped, (u.home, u.sign)))
-    (both (is_zero _) (both (is_zero _) (is_zero _)))
+    told (λ p. record { mapped = p.0.0; home = p.0.1; sign = p.1 }) (λ u. ((u.mapped, u.home), u.sign))
+    (both (both (is_zero _) (is_zero _)) (is_zero _))
   where
     is_zero : (w : ℕ) → Tells (w ≡ 0) w
     is_zero w = record { holds = λ e. e; zero = λ e. e }
@@ -124,26 +144,26 @@ pub early_tells : (s : Setup) (x : List ℕ) {a b c d e : ℕ} → Tells (Sectio
     → Tells (Section x contexts_at s.contexts max_contexts (3 * s.domains)) b
     → Tells (Section x frames_at s.frames max_frames (s.domains * s.pages)) c
     → Tells (Each (Untouched x) (s.domains * s.pages) max_entries) d → Tells (word_at x used_at ≤ s.signatures) e
-    → Tells (Early s x) (bit_or (bit_or a b) (bit_or c (bit_or d e)))
+    → Tells (Early s x) (bit_or (bit_or (bit_or (bit_or a b) c) d) e)
 early_tells s x a b c d e =
     told
     (λ p. record {
-      domains = p.0.0;
-      contexts = p.0.1;
-      frames = p.1.0;
-      past = p.1.1.0;
-      used = p.1.1.1;
+      domains = p.0.0.0.0;
+      contexts = p.0.0.0.1;
+      frames = p.0.0.1;
+      past = p.0.1;
+      used = p.1;
     })
-    (λ r. ((r.domains, r.contexts), (r.frames, (r.past, r.used))))
-    (both (both a b) (both c (both d e)))
+    (λ r. ((((r.domains, r.contexts), r.frames), r.past), r.used))
+    (both (both (both (both a b) c) d) e)
 
 -- a page whose words are in range, and whose home is held's
 pub kept_tells : (x held : List ℕ) (frames i : ℕ) {m s : ℕ} → m ≡ word_at x (mapped_at + i) - frames
     → s ≡ word_at x (sign_at + i) - word_at x used_at
-    → Tells (Kept x held frames i) (bit_or m (bit_or (bit_xor (word_at x (home_at + i)) (get_or held (1 + i) 0)) s))
+    → Tells (Kept x held frames i) (bit_or (bit_or m (bit_xor (word_at x (home_at + i)) (get_or held (1 + i) 0))) s)
 kept_tells x held frames i em es =
-    told (λ p. record { mapped = p.0; home = p.1.0; sign = p.1.1 }) (λ k. (k.mapped, (k.home, k.sign)))
-    (both (excess_tells _ _ em) (both (xor_tells _ _) (excess_tells _ _ es)))
+    told (λ p. record { mapped = p.0.0; home = p.0.1; sign = p.1 }) (λ k. ((k.mapped, k.home), k.sign))
+    (both (both (excess_tells _ _ em) (xor_tells _ _)) (excess_tells _ _ es))
 
 -- the parts together, and apart
 pub right_of : (s : Setup) (x : List ℕ) → Early s x → Late x s.frames (s.domains * s.pages)

@@ -23,7 +23,7 @@ fn domain_bare(tables: &[u16], pages: usize, d: usize) -> u16
     loops::deserted(tables, low) | loops::untouched(tables, row, row + pages)
 }
 
-// 0 where each Empty domain is bare.
+// 0 where each Empty domain is bare. The loop counts domains, since a domain's number is what it asks about.
 fn empty_bare(tables: &[u16], domains: usize, pages: usize) -> u16
     requires { (length tables.now ≡ image_words) × (pages ≤ max_pages) × (domains ≤ max_domains) }
     ensures { Tells ((d : ℕ) → d < domains → word_at tables.now (domains_at + d) ≡ 0
@@ -31,9 +31,8 @@ fn empty_bare(tables: &[u16], domains: usize, pages: usize) -> u16
 {
     let mut any: u16 = 0;
     for d in 0..domains {
-        let at = DOMAINS_AT + d;
-        if tables[at] == 0 {
-            any = any | domain_bare(tables, pages, d);
+        if tables[DOMAINS_AT + d] == 0 {
+            any |= domain_bare(tables, pages, d);
         }
     }
     any
@@ -45,7 +44,6 @@ fn early(setup: Setup, tables: &[u16]) -> u16
     ensures { Tells (Early setup tables.now) result }
 {
     let all = setup.domains * setup.pages;
-    let used = tables[USED_AT];
     let domains = loops::section(tables, DOMAINS_AT, setup.domains, Setup::MAX_DOMAINS, 2);
     let contexts = loops::section(
         tables,
@@ -62,8 +60,8 @@ fn early(setup: Setup, tables: &[u16]) -> u16
         all as u16,
     );
     let past = loops::untouched(tables, all, ENTRIES);
-    let count = loops::excess(used, setup.signatures as u16);
-    (domains | contexts) | (frames | (past | count))
+    let used = tables[USED_AT].saturating_sub(setup.signatures as u16);
+    domains | contexts | frames | past | used
 }
 
 // Whether the tables are the one image of a sound state, whatever the saved registers.

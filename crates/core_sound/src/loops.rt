@@ -6,36 +6,26 @@ ghost use Rattle.core_sound.specs.Told.{Tells, Each, Section, Untouched};
 
 use core_tables::{CONTEXTS_AT, FRAMES_AT, HOME_AT, MAPPED_AT, SIGN_AT};
 
-// How far w is over top; 0 where it is not.
-pub fn excess(w: u16, top: u16) -> u16
-    ensures { result ≡ w - top }
-{
-    if w > top { w - top } else { 0 }
-}
-
 // 0 where no word from a to e is over top.
 fn over(tables: &[u16], a: usize, e: usize, top: u16) -> u16
     requires { (a ≤ e) × (e ≤ length tables.now) }
     ensures { Tells (Each (λ k. word_at tables.now k ≤ top) a e) result }
 {
     let mut any: u16 = 0;
-    for i in a..e {
-        any = any | excess(tables[i], top);
+    for &w in &tables[a..e] {
+        any |= w.saturating_sub(top);
     }
     any
 }
 
-// 0 where the pages from a to e are as freshly started: one loop for their three tables.
+// 0 where the pages from a to e are as freshly started: one loop for their three tables, and so by the page's number.
 pub fn untouched(tables: &[u16], a: usize, e: usize) -> u16
     requires { (length tables.now ≡ image_words) × (a ≤ e) × (e ≤ max_entries) }
     ensures { Tells (Each (Untouched tables.now) a e) result }
 {
     let mut any: u16 = 0;
     for i in a..e {
-        let mapped = MAPPED_AT + i;
-        let home = HOME_AT + i;
-        let sign = SIGN_AT + i;
-        any = any | (tables[mapped] | (tables[home] | tables[sign]));
+        any |= tables[MAPPED_AT + i] | tables[HOME_AT + i] | tables[SIGN_AT + i];
     }
     any
 }
@@ -54,11 +44,7 @@ fn inside(w: u16, low: u16) -> u16
     requires { low < 3 * max_domains }
     ensures { Tells (low < w → w ≤ low + 3 → ⊥) result }
 {
-    if w > low {
-        if w <= low + 3 { 1 } else { 0 }
-    } else {
-        0
-    }
+    u16::from(low < w && w <= low + 3)
 }
 
 // 0 where no context's word is one of the three above low.
@@ -68,8 +54,8 @@ pub fn deserted(tables: &[u16], low: u16) -> u16
         → word_at tables.now (contexts_at + i) ≤ low + 3 → ⊥) result }
 {
     let mut any: u16 = 0;
-    for i in CONTEXTS_AT..FRAMES_AT {
-        any = any | inside(tables[i], low);
+    for &w in &tables[CONTEXTS_AT..FRAMES_AT] {
+        any |= inside(w, low);
     }
     any
 }

@@ -4,7 +4,6 @@ ghost use Rattle.rules.specs.Sizes.{max_frames};
 ghost use Rattle.core_tables.specs.Image.{image_words, word_at, frames_at, max_entries};
 ghost use Rattle.core_sound.specs.Told.{Tells, NamesHome, Holds, Kept, Late};
 
-use crate::loops::excess;
 use core_tables::{ENTRIES, FRAMES_AT, HOME_AT, MAPPED_AT, SIGN_AT, USED_AT};
 
 // A word for no page, and one for each page.
@@ -17,7 +16,8 @@ fn differing(k: usize, home: u16, own: u16) -> u16
     if k == 0 { 0 } else { home ^ own }
 }
 
-// Lays the frames' names out in held, which is zero. 0 where each frame names no page, or one that is Clear in it.
+// Lays the frames' names out in held, which is zero. 0 where each frame names no page, or one that is Clear in it. The loop counts
+// frames, since a frame's number is what it lays out.
 fn lay_out(tables: &[u16], frames: usize, held: &mut [u16; HELD]) -> u16
     requires { (length tables.now ≡ image_words) × (frames ≤ max_frames) × (held.old ≡ replicate (1 + max_entries) 0)
         × ((f : ℕ) → f < frames → word_at tables.now (frames_at + f) ≤ max_entries) }
@@ -26,17 +26,17 @@ fn lay_out(tables: &[u16], frames: usize, held: &mut [u16; HELD]) -> u16
 {
     let mut any: u16 = 0;
     for f in 0..frames {
-        let at = FRAMES_AT + f;
-        let k = tables[at] as usize;
+        let k = tables[FRAMES_AT + f] as usize;
         let own = (f + 1) as u16;
         held[k] = own;
         let home = HOME_AT + k - 1;
-        any = any | differing(k, tables[home], own);
+        any |= differing(k, tables[home], own);
     }
     any
 }
 
-// 0 where the pages' words are in range, and their homes what held has for them: one loop for their three tables.
+// 0 where the pages' words are in range, and their homes what held has for them: one loop for their three tables, and so by the
+// page's number.
 fn pages_kept(tables: &[u16], frames: usize, pages: usize, held: &[u16; HELD]) -> u16
     requires { (length tables.now ≡ image_words) × (frames ≤ max_frames) × (pages ≤ max_entries) }
     ensures { Tells ((i : ℕ) → i < pages → Kept tables.now held.now frames i) result }
@@ -45,13 +45,10 @@ fn pages_kept(tables: &[u16], frames: usize, pages: usize, held: &[u16; HELD]) -
     let top = frames as u16;
     let mut any: u16 = 0;
     for i in 0..pages {
-        let mapped = MAPPED_AT + i;
-        let home = HOME_AT + i;
-        let sign = SIGN_AT + i;
-        let j = 1 + i;
-        let m = excess(tables[mapped], top);
-        let s = excess(tables[sign], used);
-        any = any | (m | ((tables[home] ^ held[j]) | s));
+        let mapped = tables[MAPPED_AT + i].saturating_sub(top);
+        let home = tables[HOME_AT + i] ^ held[1 + i];
+        let sign = tables[SIGN_AT + i].saturating_sub(used);
+        any |= mapped | home | sign;
     }
     any
 }

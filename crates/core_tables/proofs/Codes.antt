@@ -1,5 +1,6 @@
 -- Each record whose numbers fit decodes from its words, and the words that are in range are the one coding of what they
 -- decode to.
+use Rattle.std.specs.Prelude.{Some, None}
 use mathlib.Core.Path.{◌≡◌, refl, ap}
 use mathlib.Core.Bool.{cond}
 use Prim.Native.Nat.{ℕ, ◌+◌, ◌*◌, ◌-◌, ◌/◌, ◌%◌, ◌<◌}
@@ -13,12 +14,10 @@ use Rattle.rules.specs.declared.Gppn.{Gppn}
 use Rattle.rules.specs.declared.Life.TheVariants.{Empty, Live, Stopped}
 use Rattle.rules.specs.declared.TrapKind.TheVariants.{Interrupt, Call}
 use Rattle.rules.specs.declared.Activity.TheVariants.{Free, Running, Kept}
-use Rattle.rules.specs.declared.Mapping.TheVariants.{Unmapped, Mapped}
 use Rattle.rules.specs.declared.Wear.{Wear}
 use Rattle.rules.specs.declared.Wear.TheVariants.{Dirty, Clean}
 use Rattle.rules.specs.declared.Place.{Place}
 use Rattle.rules.specs.declared.Place.TheVariants.{Public, Clear, Sealed}
-use Rattle.rules.specs.declared.Named.TheVariants.{Nothing, Page}
 use Rattle.core_tables.specs.Words.{life_in, life_word, activity_as, activity_in, activity_word, names_in, names_word, mapping_in}
 use Rattle.core_tables.specs.Words.{mapping_word, wear_in, hidden_in, place_in, home_word, sign_word, LifeCode, ActivityCode}
 use Rattle.core_tables.specs.Words.{NamesCode, MappingCode, PlaceCode, Housed}
@@ -66,11 +65,11 @@ module _ (d : Asid) (h : d.0 < 256) where
   call_code = record { word = refl; back = acts (3 + 3 * d.0) 2 d.0 (omega arith) (omega arith) (omega arith) }
 
 -- frames
-pub nothing_code : (v : ℕ) → NamesCode v Nothing 0
+pub nothing_code : (v : ℕ) → NamesCode v None 0
 unfolding names_in names_word
 nothing_code v = record { word = refl; back = refl }
 
-pub named_code : (v : ℕ) (d : Asid) (p : Gvpn) → d.0 < 256 → p.0 < v → NamesCode v (Page d p) (1 + (d.0 * v + p.0))
+pub named_code : (v : ℕ) (d : Asid) (p : Gvpn) → d.0 < 256 → p.0 < v → NamesCode v (Some (d, p)) (1 + (d.0 * v + p.0))
 unfolding names_in names_word
 named_code v d p hd hp =
     let n : ℕ = d.0 * v + p.0 in
@@ -82,16 +81,16 @@ named_code v d p hd hp =
     }
 
 -- mappings
-pub unmapped_code : MappingCode Unmapped 0
+pub unmapped_code : MappingCode None 0
 unfolding mapping_in mapping_word
 unmapped_code = record { word = refl; back = refl }
 
-pub mapped_code : (f : Gppn) → f.0 < 256 → MappingCode (Mapped f) (1 + f.0)
+pub mapped_code : (f : Gppn) → f.0 < 256 → MappingCode (Some f) (1 + f.0)
 unfolding mapping_in mapping_word
 mapped_code f h =
     record {
       word = refl;
-      back = rw (ne_eqb (1 + f.0) 0 (λ e. omega arith)) (ap (λ (n : ℕ). Mapped (record { 0 = n })) (omega arith));
+      back = rw (ne_eqb (1 + f.0) 0 (λ e. omega arith)) (ap (λ (n : ℕ). Some (record { 0 = n })) (omega arith));
     }
 
 -- places

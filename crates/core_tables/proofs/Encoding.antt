@@ -1,5 +1,6 @@
 -- Tables whose numbers fit their words have an image that holds them again, and so have saved registers of eight words each: with
 -- Images.antt, a state has one image.
+use Rattle.std.specs.Prelude.{Option, Some, None}
 use mathlib.Core.Path.{◌≡◌, refl, sym, ap, ◌∙◌}
 use mathlib.Core.List.{List, [], ◌∷◌, ◌++◌, map}
 use Prim.Native.Nat.{ℕ, zero, suc, ◌+◌, ◌-◌, ◌*◌, ◌≤◌, ◌<◌}
@@ -11,6 +12,7 @@ use lib.ListN.{take-append-drop, get_or-eq_default}
 use lib.Seq.{length-take-le, drop_at, take_at, get_or-drop, drop-drop, ext_get_or}
 use Rattle.rules.specs.Sizes.{max_domains, max_contexts, max_frames}
 use Rattle.rules.specs.Records.{empty_domain, free_context, open_frame, public_page, zero_registers, domain_where, frame_where, tables}
+use Rattle.rules.specs.declared.Gppn.{Gppn}
 use Rattle.rules.specs.declared.Tables.{Tables}
 use Rattle.rules.specs.declared.Asid.{Asid}
 use Rattle.rules.specs.declared.Gvpn.{Gvpn}
@@ -24,10 +26,6 @@ use Rattle.rules.specs.declared.Life.TheVariants.{Empty, Live, Stopped}
 use Rattle.rules.specs.declared.TrapKind.TheVariants.{Interrupt, Call}
 use Rattle.rules.specs.declared.Activity.{Activity}
 use Rattle.rules.specs.declared.Activity.TheVariants.{Free, Running, Kept}
-use Rattle.rules.specs.declared.Mapping.{Mapping}
-use Rattle.rules.specs.declared.Mapping.TheVariants.{Unmapped, Mapped}
-use Rattle.rules.specs.declared.Named.{Named}
-use Rattle.rules.specs.declared.Named.TheVariants.{Nothing, Page}
 use Rattle.core_tables.specs.Words.{life_in, life_word, activity_in, activity_word, names_in, names_word, mapping_in, mapping_word}
 use Rattle.core_tables.specs.Words.{home_word, sign_word, Housed}
 use Rattle.core_tables.specs.Image.{image_words, domains_at, contexts_at, frames_at, mapped_at, home_at, sign_at, used_at, max_entries}
@@ -57,15 +55,16 @@ pub record NamedFits (v : ℕ) (d : Asid) (p : Gvpn) : Type 0 where
   pub domain : d.0 < 256
   pub page : p.0 < v
 
-names_back : (v : ℕ) (r : Named) → ((d : Asid) (p : Gvpn) → r ≡ Page d p → NamedFits v d p) → names_in v (names_word v r) ≡ r
+names_back : (v : ℕ) (r : Option (Asid × Gvpn)) → ((d : Asid) (p : Gvpn) → r ≡ Some (d, p) → NamedFits v d p)
+    → names_in v (names_word v r) ≡ r
 unfolding names_word
-names_back v Nothing h = (nothing_code v).back
-names_back v (Page d p) h = (named_code v d p (h d p refl).domain (h d p refl).page).back
+names_back v None h = (nothing_code v).back
+names_back v (Some (d, p)) h = (named_code v d p (h d p refl).domain (h d p refl).page).back
 
-mapping_back : (r : Mapping) → (frame_where r).0 < 256 → mapping_in (mapping_word r) ≡ r
+mapping_back : (r : Option Gppn) → (frame_where r).0 < 256 → mapping_in (mapping_word r) ≡ r
 unfolding mapping_word
-mapping_back Unmapped h = unmapped_code.back
-mapping_back (Mapped f) h = (mapped_code f h).back
+mapping_back None h = unmapped_code.back
+mapping_back (Some f) h = (mapped_code f h).back
 
 -- tables as long as their type says, whose numbers fit their words
 pub record Fits (v : ℕ) (t : Tables) : Type 0 where
@@ -74,7 +73,7 @@ pub record Fits (v : ℕ) (t : Tables) : Type 0 where
   pub pages : length t.pages ≡ max_entries
   pub frames : length t.frames ≡ max_frames
   pub activities : (i : ℕ) → i < max_contexts → (domain_where (get_or t.contexts i free_context).activity).0 < 256
-  pub names : (i : ℕ) → i < max_frames → (d : Asid) (p : Gvpn) → (get_or t.frames i open_frame).names ≡ Page d p → NamedFits v d p
+  pub names : (i : ℕ) → i < max_frames → (d : Asid) (p : Gvpn) → (get_or t.frames i open_frame).names ≡ Some (d, p) → NamedFits v d p
   pub mappings : (i : ℕ) → i < max_entries → (frame_where (get_or t.pages i public_page).mapping).0 < 256
   pub places : (i : ℕ) → i < max_entries → Housed (get_or t.pages i public_page).place
 

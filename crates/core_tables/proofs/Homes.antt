@@ -1,5 +1,6 @@
 -- What a context's domain and its own page are, by agreeing records: the domain is one of the setup's, and so is the frame that the
 -- page is mapped to.
+use Rattle.std.specs.Prelude.{Option, Some, None}
 use mathlib.Core.Path.{◌≡◌, refl}
 use mathlib.Core.Bool.{true, not}
 use Prim.Native.Nat.{ℕ, ◌≤◌, ◌<◌}
@@ -16,8 +17,6 @@ use Rattle.rules.specs.declared.Ctc.{Ctc}
 use Rattle.rules.specs.declared.TrapKind.{TrapKind}
 use Rattle.rules.specs.declared.Activity.{Activity}
 use Rattle.rules.specs.declared.Activity.TheVariants.{Free, Running, Kept}
-use Rattle.rules.specs.declared.Mapping.{Mapping}
-use Rattle.rules.specs.declared.Mapping.TheVariants.{Unmapped, Mapped}
 
 home_at : (n : ℕ) → 1 ≤ n → (a : Activity) → ((d : Asid) → a ≡ Running d → d.0 < n)
     → ((d : Asid) (k : TrapKind) → a ≡ Kept d k → d.0 < n)
@@ -40,7 +39,7 @@ module _ (s : Setup) (t : Tables) (size : Limited s) (agrees : Agreed s t) (c : 
   own_frame_holds is =
       at (mapping_of s t (domain_of t c) v) (λ f e. agrees.mapped (domain_of t c) v f (home s t size agrees c known) below e) is
     where
-      at : (m : Mapping) → ((f : Gppn) → m ≡ Mapped f → f.0 < s.frames) → not (is_unmapped m) ≡ true
+      at : (m : Option Gppn) → ((f : Gppn) → m ≡ Some f → f.0 < s.frames) → not (is_unmapped m) ≡ true
           → (frame_where m).0 < s.frames
-      at Unmapped h e = absurd (let z : ◌≡◌ {A = ℕ} 0 1 = cc in omega arith)
-      at (Mapped f) h e = h f refl
+      at None h e = absurd (let z : ◌≡◌ {A = ℕ} 0 1 = cc in omega arith)
+      at (Some f) h e = h f refl

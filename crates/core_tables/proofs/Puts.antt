@@ -1,4 +1,5 @@
 -- An image of which one record's words changed holds the tables with that record changed.
+use Rattle.std.specs.Prelude.{Option}
 use mathlib.Core.Path.{◌≡◌, refl, ap, ◌∙◌}
 use mathlib.Core.List.{List}
 use Prim.Native.Nat.{ℕ, ◌+◌, ◌<◌}
@@ -7,16 +8,17 @@ use lib.ListN.{length, get_or, set, length-set}
 use lib.Seq.{get_or-set_same, get_or-set_other, set-set}
 use Rattle.rules.specs.Sizes.{max_domains, max_contexts, max_frames}
 use Rattle.rules.specs.Records.{public_page}
+use Rattle.rules.specs.declared.Gppn.{Gppn}
+use Rattle.rules.specs.declared.Gvpn.{Gvpn}
+use Rattle.rules.specs.declared.Asid.{Asid}
 use Rattle.rules.specs.declared.Tables.{Tables}
 use Rattle.rules.specs.declared.DomainRecord.{DomainRecord}
 use Rattle.rules.specs.declared.ContextRecord.{ContextRecord}
 use Rattle.rules.specs.declared.FrameRecord.{FrameRecord}
 use Rattle.rules.specs.declared.PageRecord.{PageRecord}
-use Rattle.rules.specs.declared.Mapping.{Mapping}
 use Rattle.rules.specs.declared.Place.{Place}
 use Rattle.rules.specs.declared.Life.{Life}
 use Rattle.rules.specs.declared.Activity.{Activity}
-use Rattle.rules.specs.declared.Named.{Named}
 use Rattle.core_tables.specs.Words.{LifeCode, ActivityCode, NamesCode, MappingCode, PlaceCode, frame_in, names_in, names_word}
 use Rattle.core_tables.specs.Words.{domain_in, life_in, life_word, context_in, activity_in, activity_word, mapping_in, mapping_word}
 use Rattle.core_tables.specs.Image.{image_words, domains_at, contexts_at, frames_at, mapped_at, home_at, sign_at, used_at}
@@ -88,7 +90,7 @@ module _ (v : ℕ) (x : List ℕ) (long : length x ≡ image_words) where
             };
       }
 
-  pub put_names : (i w : ℕ) (r : Named) → i < max_frames → NamesCode v r w
+  pub put_names : (i w : ℕ) (r : Option (Asid × Gvpn)) → i < max_frames → NamesCode v r w
       → Put v x (set x (frames_at + i) w) (set_names i r (tables_in v x))
   unfolding tables_in
   put_names i w r h code =
@@ -103,7 +105,7 @@ module _ (v : ℕ) (x : List ℕ) (long : length x ≡ image_words) where
               kept context_in x y contexts_at max_contexts (rest _ _ (λ k b e. omega arith)),
               pages_kept x y (rest _ _ (λ k b e. omega arith)) (rest _ _ (λ k b e. omega arith)) (rest _ _ (λ k b e. omega arith)),
               changed (frame_in v) x y frames_at max_frames i w _ h (other x j w frames_at max_frames i refl) new
-                  (ap {B = FrameRecord} (λ (l : Named). record { names = l }) code.back),
+                  (ap {B = FrameRecord} (λ (l : Option (Asid × Gvpn)). record { names = l }) code.back),
               get_or-set_other x j used_at w 0 (λ e. omega arith),
             );
         canonical =
@@ -118,7 +120,7 @@ module _ (v : ℕ) (x : List ℕ) (long : length x ≡ image_words) where
             };
       }
 
-  pub put_mapping : (i w : ℕ) (r : Mapping) → i < max_entries → MappingCode r w
+  pub put_mapping : (i w : ℕ) (r : Option Gppn) → i < max_entries → MappingCode r w
       → Put v x (set x (mapped_at + i) w)
       (set_page i (record { mapping = r; place = (get_or (tables_in v x).pages i public_page).place }) (tables_in v x))
   unfolding tables_in

@@ -1,4 +1,5 @@
 -- The tables of two images that differ in the words of one record, or in none of a table.
+use Rattle.std.specs.Prelude.{Option}
 use mathlib.Core.Path.{◌≡◌, refl, ap}
 use mathlib.Core.Bool.{Bool, true, false}
 use mathlib.Core.List.{List}
@@ -10,7 +11,7 @@ use borrow.Author.Tests.{eqb-true, eqb-false}
 use lib.ListN.{get_or, set}
 use lib.Seq.{get_or-set_other}
 use Rattle.rules.specs.Records.{public_page}
-use Rattle.rules.specs.declared.Mapping.{Mapping}
+use Rattle.rules.specs.declared.Gppn.{Gppn}
 use Rattle.rules.specs.declared.Place.{Place}
 use Rattle.core_tables.specs.Words.{mapping_in, place_in, home_word}
 use Rattle.core_tables.specs.Image.{mapped_at, home_at, sign_at, max_entries, page_at, table}
@@ -65,7 +66,7 @@ pub home_still : (x y : List ℕ) → Same x y home_at max_entries → Same x y 
 home_still x y h s old i b = rw (h i b, s i b) (old i b)
 
 -- one page's mapping changed
-pub page_mapping : (x y : List ℕ) (k w : ℕ) (r : Mapping) → k < max_entries → Else x y mapped_at max_entries k
+pub page_mapping : (x y : List ℕ) (k w : ℕ) (r : Option Gppn) → k < max_entries → Else x y mapped_at max_entries k
     → get_or y (mapped_at + k) 0 ≡ w
     → mapping_in w ≡ r → Same x y home_at max_entries → Same x y sign_at max_entries
     → table (page_at y) 0 max_entries

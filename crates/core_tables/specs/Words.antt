@@ -1,6 +1,8 @@
 -- Records as words of 16 bits, each "0 none, n + 1": every word decodes, and a record whose numbers fit has one coding.
 -- A page has three words (mapped, home, sign), every other record one.
-use Rattle.std.specs.Prelude.{◌≡◌, cond, ℕ, ◌+◌, ◌*◌, ◌-◌, ◌/◌, ◌%◌, ◌<◌, eqb}
+use Rattle.std.specs.Prelude.{◌≡◌, cond, ℕ, ◌+◌, ◌*◌, ◌-◌, ◌/◌, ◌%◌, ◌<◌, eqb, Option, Some, None}
+use Rattle.rules.specs.declared.Gppn.{Gppn}
+use Rattle.rules.specs.declared.Gvpn.{Gvpn}
 use Rattle.rules.specs.declared.PageRecord.{PageRecord}
 use Rattle.rules.specs.declared.FrameRecord.{FrameRecord}
 use Rattle.rules.specs.declared.DomainRecord.{DomainRecord}
@@ -11,14 +13,10 @@ use Rattle.rules.specs.declared.Life.TheVariants.{Empty, Live, Stopped}
 use Rattle.rules.specs.declared.TrapKind.TheVariants.{Interrupt, Call}
 use Rattle.rules.specs.declared.Activity.{Activity}
 use Rattle.rules.specs.declared.Activity.TheVariants.{Free, Running, Kept}
-use Rattle.rules.specs.declared.Mapping.{Mapping}
-use Rattle.rules.specs.declared.Mapping.TheVariants.{Unmapped, Mapped}
 use Rattle.rules.specs.declared.Wear.{Wear}
 use Rattle.rules.specs.declared.Wear.TheVariants.{Dirty, Clean}
 use Rattle.rules.specs.declared.Place.{Place}
 use Rattle.rules.specs.declared.Place.TheVariants.{Public, Clear, Sealed}
-use Rattle.rules.specs.declared.Named.{Named}
-use Rattle.rules.specs.declared.Named.TheVariants.{Nothing, Page}
 
 -- a domain's life
 unfoldable pub life_in : ℕ → Life
@@ -43,20 +41,20 @@ activity_word (Kept d Interrupt) = 2 + 3 * d.0
 activity_word (Kept d Call) = 3 + 3 * d.0
 
 -- what a frame names: 0 is none, else 1 + the page's number among all, of which v are each domain's
-unfoldable pub names_in : ℕ → ℕ → Named
-names_in v w = cond (eqb w 0) Nothing (Page (record { 0 = (w - 1) / v % 256 }) (record { 0 = (w - 1) % v }))
+unfoldable pub names_in : ℕ → ℕ → Option (Asid × Gvpn)
+names_in v w = cond (eqb w 0) None (Some (record { 0 = (w - 1) / v % 256 }, record { 0 = (w - 1) % v }))
 
-unfoldable pub names_word : ℕ → Named → ℕ
-names_word v Nothing = 0
-names_word v (Page d p) = 1 + (d.0 * v + p.0)
+unfoldable pub names_word : ℕ → Option (Asid × Gvpn) → ℕ
+names_word v None = 0
+names_word v (Some (d, p)) = 1 + (d.0 * v + p.0)
 
--- a page's mapping: 0 is Unmapped, else 1 + frame
-unfoldable pub mapping_in : ℕ → Mapping
-mapping_in w = cond (eqb w 0) Unmapped (Mapped (record { 0 = (w - 1) % 256 }))
+-- a page's mapping: 0 is none, else 1 + frame
+unfoldable pub mapping_in : ℕ → Option Gppn
+mapping_in w = cond (eqb w 0) None (Some (record { 0 = (w - 1) % 256 }))
 
-unfoldable pub mapping_word : Mapping → ℕ
-mapping_word Unmapped = 0
-mapping_word (Mapped f) = 1 + f.0
+unfoldable pub mapping_word : Option Gppn → ℕ
+mapping_word None = 0
+mapping_word (Some f) = 1 + f.0
 
 -- a page's place, in two words: home, 1 + the frame that it is Clear in, and sign, 1 + its signature's number
 unfoldable pub wear_in : ℕ → Wear
@@ -101,9 +99,9 @@ Housed (Sealed k) = Unit {0}
 unfoldable pub PlaceFits : Place → Type 0
 PlaceFits p = sign_word p < 65536
 
-unfoldable pub NamesFit : ℕ → Named → Type 0
-NamesFit v Nothing = Unit {0}
-NamesFit v (Page d p) = p.0 < v
+unfoldable pub NamesFit : ℕ → Option (Asid × Gvpn) → Type 0
+NamesFit v None = Unit {0}
+NamesFit v (Some (d, p)) = p.0 < v
 
 -- w is the one coding of r
 pub record LifeCode (r : Life) (w : ℕ) : Type 0 where
@@ -114,11 +112,11 @@ pub record ActivityCode (r : Activity) (w : ℕ) : Type 0 where
   pub word : activity_word r ≡ w
   pub back : activity_in w ≡ r
 
-pub record NamesCode (v : ℕ) (r : Named) (w : ℕ) : Type 0 where
+pub record NamesCode (v : ℕ) (r : Option (Asid × Gvpn)) (w : ℕ) : Type 0 where
   pub word : names_word v r ≡ w
   pub back : names_in v w ≡ r
 
-pub record MappingCode (r : Mapping) (w : ℕ) : Type 0 where
+pub record MappingCode (r : Option Gppn) (w : ℕ) : Type 0 where
   pub word : mapping_word r ≡ w
   pub back : mapping_in w ≡ r
 

@@ -1,5 +1,10 @@
 // The lent tables: words of 16 bits at fixed places, each "0 none, n + 1". A record is read into the value that the rules
 // speak of, and written back from it; nothing else is touched. The saved registers are lent apart, eight words a context.
+//
+// The tables are a slice, and each clause says that it is as long as an image. An array's reference would say it in its type, but
+// what is written through one that was made of a slice is lost to the check once it stands in a struct (`core_answer::Lent`): the goal
+// left is that the slice's last words are what was written. Each record has two functions of a line each, and no trait over the
+// records: that would name each one's table, place and default once more.
 #![tactic(auto)]
 
 ghost use Rattle.std.specs.Prelude.{◌≡◌, ℕ, ◌<◌, ◌≤◌, length, get_or};
@@ -10,7 +15,7 @@ ghost use Rattle.core_tables.specs.Words.{names_word, PlaceFits, NamesFit};
 ghost use Rattle.core_tables.specs.Image.{image_words, max_entries, tables_in, Canonical};
 ghost use Rattle.core_tables.specs.Put.{Put, set_page, set_names, set_life, set_activity, set_used};
 
-use rules::{Activity, Life, Mapping, Named, PageRecord, Place, Setup};
+use rules::{Activity, Asid, Gppn, Gvpn, Life, PageRecord, Place, Setup};
 
 pub mod saved;
 pub mod words;
@@ -37,12 +42,11 @@ pub const USED_AT: usize = SIGN_AT + ENTRIES;
 pub const WORDS: usize = USED_AT + 1;
 
 // Every word 0: as freshly started, where there are as many words as an image has.
+#[tactic(auto, unfolding(rules::specs::Bytes::zeros))]
 pub fn zero(tables: &mut [u16])
     ensures { tables.new ≡ zeros (length tables.old) }
 {
-    for i in 0..tables.len() {
-        tables[i] = 0;
-    }
+    tables.fill(0);
 }
 
 // The life of domain i.
@@ -50,16 +54,14 @@ pub fn life_at(tables: &[u16], i: usize) -> Life
     requires { (length tables.now ≡ image_words) × (i < max_domains) }
     ensures { (v : ℕ) → result ≡ (get_or (tables_in v tables.now).domains i empty_domain).life }
 {
-    let at = DOMAINS_AT + i;
-    words::life_in(tables[at])
+    words::life_in(tables[DOMAINS_AT + i])
 }
 
 pub fn put_life(tables: &mut [u16], i: usize, r: Life)
     requires { (length tables.old ≡ image_words) × (i < max_domains) }
     ensures { (v : ℕ) → Put v tables.old tables.new (set_life i r (tables_in v tables.old)) }
 {
-    let at = DOMAINS_AT + i;
-    tables[at] = words::life_word(r);
+    tables[DOMAINS_AT + i] = words::life_word(r);
 }
 
 // What context i does.
@@ -67,33 +69,29 @@ pub fn activity_at(tables: &[u16], i: usize) -> Activity
     requires { (length tables.now ≡ image_words) × (i < max_contexts) }
     ensures { (v : ℕ) → result ≡ (get_or (tables_in v tables.now).contexts i free_context).activity }
 {
-    let at = CONTEXTS_AT + i;
-    words::activity_in(tables[at])
+    words::activity_in(tables[CONTEXTS_AT + i])
 }
 
 pub fn put_activity(tables: &mut [u16], i: usize, r: Activity)
     requires { (length tables.old ≡ image_words) × (i < max_contexts) }
     ensures { (v : ℕ) → Put v tables.old tables.new (set_activity i r (tables_in v tables.old)) }
 {
-    let at = CONTEXTS_AT + i;
-    tables[at] = words::activity_word(r);
+    tables[CONTEXTS_AT + i] = words::activity_word(r);
 }
 
 // What frame i names; each domain has so many pages.
-pub fn names_at(tables: &[u16], pages: usize, i: usize) -> Named
+pub fn names_at(tables: &[u16], pages: usize, i: usize) -> Option<(Asid, Gvpn)>
     requires { (length tables.now ≡ image_words) × (1 ≤ pages) × (pages ≤ max_pages) × (i < max_frames) }
     ensures { result ≡ (get_or (tables_in pages tables.now).frames i open_frame).names }
 {
-    let at = FRAMES_AT + i;
-    words::names_in(pages, tables[at])
+    words::names_in(pages, tables[FRAMES_AT + i])
 }
 
-pub fn put_names(tables: &mut [u16], pages: usize, i: usize, r: Named)
+pub fn put_names(tables: &mut [u16], pages: usize, i: usize, r: Option<(Asid, Gvpn)>)
     requires { (length tables.old ≡ image_words) × (1 ≤ pages) × (pages ≤ max_pages) × (i < max_frames) × NamesFit pages r }
     ensures { Put pages tables.old tables.new (set_names i r (tables_in pages tables.old)) }
 {
-    let at = FRAMES_AT + i;
-    tables[at] = words::names_word(pages, r);
+    tables[FRAMES_AT + i] = words::names_word(pages, r);
 }
 
 // Page record i.
@@ -101,17 +99,17 @@ pub fn page_at(tables: &[u16], i: usize) -> PageRecord
     requires { (length tables.now ≡ image_words) × (i < max_entries) }
     ensures { (v : ℕ) → result ≡ get_or (tables_in v tables.now).pages i public_page }
 {
-    let mapping = mapping_at(tables, i);
-    let place = place_at(tables, i);
-    PageRecord { mapping, place }
+    PageRecord {
+        mapping: mapping_at(tables, i),
+        place: place_at(tables, i),
+    }
 }
 
-pub fn mapping_at(tables: &[u16], i: usize) -> Mapping
+pub fn mapping_at(tables: &[u16], i: usize) -> Option<Gppn>
     requires { (length tables.now ≡ image_words) × (i < max_entries) }
     ensures { (v : ℕ) → result ≡ (get_or (tables_in v tables.now).pages i public_page).mapping }
 {
-    let at = MAPPED_AT + i;
-    words::mapping_in(tables[at])
+    words::mapping_in(tables[MAPPED_AT + i])
 }
 
 // Its place fits the words that it is read from.
@@ -119,19 +117,16 @@ pub fn place_at(tables: &[u16], i: usize) -> Place
     requires { (length tables.now ≡ image_words) × (i < max_entries) }
     ensures { (v : ℕ) → result ≡ (get_or (tables_in v tables.now).pages i public_page).place }
 {
-    let home = HOME_AT + i;
-    let sign = SIGN_AT + i;
-    words::place_in(tables[home], tables[sign])
+    words::place_in(tables[HOME_AT + i], tables[SIGN_AT + i])
 }
 
-pub fn put_mapping(tables: &mut [u16], i: usize, r: Mapping)
+pub fn put_mapping(tables: &mut [u16], i: usize, r: Option<Gppn>)
     requires { (length tables.old ≡ image_words) × (i < max_entries) }
     ensures { (v : ℕ) → Put v tables.old tables.new
         (set_page i (record { mapping = r; place = (get_or (tables_in v tables.old).pages i public_page).place })
         (tables_in v tables.old)) }
 {
-    let at = MAPPED_AT + i;
-    tables[at] = words::mapping_word(r);
+    tables[MAPPED_AT + i] = words::mapping_word(r);
 }
 
 pub fn put_place(tables: &mut [u16], i: usize, r: Place)
@@ -140,10 +135,8 @@ pub fn put_place(tables: &mut [u16], i: usize, r: Place)
         (set_page i (record { mapping = (get_or (tables_in v tables.old).pages i public_page).mapping; place = r })
         (tables_in v tables.old)) }
 {
-    let home = HOME_AT + i;
-    let sign = SIGN_AT + i;
-    tables[home] = words::home_word(r);
-    tables[sign] = words::sign_word(r);
+    tables[HOME_AT + i] = words::home_word(r);
+    tables[SIGN_AT + i] = words::sign_word(r);
 }
 
 // The used count.
@@ -166,20 +159,19 @@ pub fn put_page(tables: &mut [u16], i: usize, r: PageRecord)
     requires { (length tables.old ≡ image_words) × (i < max_entries) × PlaceFits r.place }
     ensures { (v : ℕ) → Put v tables.old tables.new (set_page i r (tables_in v tables.old)) }
 {
-    let mapping = r.mapping;
-    let place = r.place;
-    put_mapping(tables, i, mapping);
-    put_place(tables, i, place);
+    put_mapping(tables, i, r.mapping);
+    put_place(tables, i, r.place);
 }
 
-// A page's place and what a frame names, which tell of each other.
+// A page's place and what a frame names, which tell of each other. Two records, each by its number: a struct of them would be made for
+// this call alone.
 pub fn put_move(
     tables: &mut [u16],
     pages: usize,
     slot: usize,
     place: Place,
     frame: usize,
-    names: Named,
+    names: Option<(Asid, Gvpn)>,
 )
     requires { (length tables.old ≡ image_words) × (1 ≤ pages) × (pages ≤ max_pages) × (slot < max_entries) × (frame < max_frames)
         × PlaceFits place × NamesFit pages names }
@@ -198,6 +190,5 @@ pub fn slot_at(tables: &[u16], i: usize) -> u16
     ensures { (v : ℕ) → Canonical v tables.now → result
         ≡ names_word v (get_or (tables_in v tables.now).frames i open_frame).names }
 {
-    let at = FRAMES_AT + i;
-    tables[at]
+    tables[FRAMES_AT + i]
 }

@@ -18,22 +18,11 @@ pub fn saved_at(saved: &[u64], n: usize, i: usize) -> &[u64]
 }
 
 // Every word 0: as freshly started.
+#[tactic(auto, unfolding(rules::specs::Bytes::zeros))]
 pub fn zero(saved: &mut [u64])
     ensures { saved.new ≡ zeros (length saved.old) }
 {
-    for i in 0..saved.len() {
-        saved[i] = 0;
-    }
-}
-
-// Every word of dst from src, which is as long.
-fn copy(dst: &mut [u64], src: &[u64])
-    requires { length src.now ≡ length dst.old }
-    ensures { dst.new ≡ src.now }
-{
-    for i in 0..src.len() {
-        dst[i] = src[i];
-    }
+    saved.fill(0);
 }
 
 // The saved registers of context i, as the value that the rules speak of.
@@ -42,7 +31,7 @@ pub fn registers_at(saved: &[u64], n: usize, i: usize) -> Registers
     ensures { result.words ≡ (get_or (saved_in n saved.now) i zero_registers).words }
 {
     let mut words = [0u64; 8];
-    copy(&mut words, saved_at(saved, n, i));
+    words.copy_from_slice(saved_at(saved, n, i));
     Registers { words }
 }
 
@@ -52,7 +41,7 @@ pub fn put_saved(saved: &mut [u64], n: usize, i: usize, words: &[u64])
 {
     let at = 8 * i;
     let end = at + 8;
-    copy(&mut saved[at..end], words);
+    saved[at..end].copy_from_slice(words);
 }
 
 // The registers of context i zero.

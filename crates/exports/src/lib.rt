@@ -7,9 +7,9 @@ ghost use Rattle.rules.specs.Bytes.{zeros, same_bytes};
 ghost use Rattle.exports.specs.Leaves.{copied};
 ghost use Rattle.exports.specs.Told.{told, told_of, handed, next_record};
 
-use rules::Event;
+use rules::Refusal;
 use trace_form::Fields;
-use trace_read::Found;
+use trace_read::Record;
 
 // Every byte of dst from src, where src is as long; else none.
 #[tactic(auto, unfolding(crate::specs::Leaves::copied))]
@@ -38,25 +38,26 @@ pub extern "C" fn leaf_same(a: &[u8], b: &[u8]) -> bool
     core_bytes::same(a, b)
 }
 
-// What was found, in nine numbers.
-fn numbers_of(found: Found) -> [usize; 9]
+// What was found, in nine numbers: the C interface has no enum.
+fn numbers_of(found: Result<Option<Record>, Refusal>) -> [usize; 9]
     ensures { result ≡ told found }
 {
     match found {
-        Found::End => [0, 0, 0, 0, 0, 0, 0, 0, 0],
-        Found::Refused(number) => [number as usize, 0, 0, 0, 0, 0, 0, 0, 0],
-        Found::Record {
-            event,
-            start,
-            len,
-            next: _,
-        } => numbers_in(event, start, len),
+        Ok(Some(record)) => numbers_in(record),
+        Ok(None) => [0; 9],
+        Err(refusal) => [u8::from(refusal) as usize, 0, 0, 0, 0, 0, 0, 0, 0],
     }
 }
 
-fn numbers_in(event: Event, start: usize, len: usize) -> [usize; 9]
-    ensures { result ≡ told_of event start len }
+fn numbers_in(found: Record) -> [usize; 9]
+    ensures { result ≡ told_of found }
 {
+    let Record {
+        event,
+        start,
+        len,
+        next: _,
+    } = found;
     let kind = event.kind() as usize;
     let v = Fields::of(event);
     let first = v.first as usize;
@@ -75,5 +76,5 @@ pub extern "C" fn next_record(unread: &[u8], place: usize, out: &mut [usize; 9])
 {
     let found = trace_read::record_at(unread, place);
     *out = numbers_of(found);
-    trace_read::place_after(place, found)
+    trace_read::place_after(place, found.ok().flatten())
 }

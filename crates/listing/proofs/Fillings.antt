@@ -1,15 +1,14 @@
 -- Filling an output, line by line: what is known between two turns, and what is left at the end.
-use Rattle.std.proofs.Common.{◌≡◌, ℕ, ◌+◌, ◌-◌, ◌/◌, ◌<◌, ◌≤◌, Bool, true, false, ltb, leb, List, [], ◌∷◌, ◌++◌, length, sym, refl, ap}
-use Rattle.std.proofs.Common.{◌∙◌, append_assoc, append-nil, zero-add, arith, ltb→lt, leb→le, le-ltb, lt-ltb, le-leb}
+use Rattle.std.proofs.Common.{◌≡◌, ℕ, ◌+◌, ◌-◌, ◌<◌, ◌≤◌, List, [], ◌++◌, length, sym, refl, ap}
+use Rattle.std.proofs.Common.{◌∙◌, append_assoc, append-nil, zero-add, arith, le-leb}
 use native.Mathlib.Decide.{dec_lt}
 use borrow.Author.Tests.{lt-leb}
-use Rattle.rules.proofs.Facts.{each, passed}
 use Rattle.rules.proofs.Parts.{length_overlay}
-use Rattle.rules.specs.Bytes.{overlay, all_of}
+use Rattle.rules.specs.Bytes.{overlay}
 use Rattle.listing_line.specs.Lines.{Put}
 use Rattle.listing_line.proofs.Puts.{put_then}
 use Rattle.listing.specs.Listing.{Point, listed, listed_from}
-use Rattle.listing.specs.Filling.{Lines, Fills, numbers_room, line_room, none, behind, fitting, fills, turns, filled}
+use Rattle.listing.specs.Filling.{Lines, Fills, line_room, none, behind, fitting, fills, turns, filled}
 use Rattle.listing.proofs.Steps.{ahead, Onward, fitting_onward, fitting_end, fitting_full, fitting_more}
 
 abbrev pub fills_at : ℕ → Point → List ℕ → Fills
@@ -18,52 +17,16 @@ fills_at k p out = record { count = k; end = p; out = out }
 abbrev lines_of : List ℕ → Point → Lines
 lines_of text end = record { text = text; end = end }
 
--- the test that the code makes
-module _ (place end room answer : ℕ) where
-  abbrev test : Bool
-  test = all_of (ltb place end ∷ leb (line_room answer) room ∷ [])
+-- no line is to follow
+abbrev pub IsFull : Point → ℕ → Type 0
+IsFull p room = p.run.place < length p.trace → room < line_room (length p.buffer)
 
-  pub at_the_end : end ≤ place → false ≡ test
-  unfolding all_of
-  at_the_end h = rw (le-ltb place end h)
-
-  pub no_room_left : place < end → room < numbers_room → false ≡ test
-  unfolding all_of
-  no_room_left h r = rw (lt-ltb place end h, lt-leb (line_room answer) room (omega arith))
-
-  pub room_decides : place < end → numbers_room ≤ room → leb answer ((room - numbers_room) / 2) ≡ test
-  unfolding all_of
-  room_decides h r = rw (lt-ltb place end h) (go (dec_lt room (line_room answer)))
-    where
-      go : Dec (room < line_room answer) → leb answer ((room - numbers_room) / 2) ≡ all_of (leb (line_room answer) room ∷ [])
-      go (yes l) = lt-leb answer ((room - numbers_room) / 2) (omega arith) ∙ sym (rw (lt-leb (line_room answer) room l))
-      go (no l) = le-leb answer ((room - numbers_room) / 2) (omega arith) ∙ sym (rw (le-leb (line_room answer) room (omega arith)))
-
-  pub goes : {b : Bool} → b ≡ test → b ≡ true → (place < end) × (line_room answer ≤ room)
-  goes e t =
-      let both = each (ltb place end ∷ leb (line_room answer) room ∷ []) (passed test (sym e ∙ t)) in
-      (ltb→lt place end both.0, leb→le (line_room answer) room both.1.0)
-
-  stops : {b : Bool} → b ≡ test → b ≡ false → place < end → room < line_room answer
-  unfolding all_of
-  stops e f h = go (dec_lt room (line_room answer))
-    where
-      go : Dec (room < line_room answer) → room < line_room answer
-      go (yes l) = l
-      go (no l) =
-          let never : true ≡ false = sym (rw (lt-ltb place end h, le-leb (line_room answer) room (omega arith)) at e) ∙ f in
-          let z : ◌≡◌ {A = ℕ} 0 1 = cc in
-          absurd (omega arith)
-
-module _ (p : Point) (room : ℕ) where
-  -- no line is to follow
-  full : {b : Bool} → b ≡ test p.run.place (length p.trace) room (length p.buffer) → b ≡ false
-      → fitting room p (listed_from p) ≡ none p
-  full e f = go (dec_lt p.run.place (length p.trace))
-    where
-      go : Dec (p.run.place < length p.trace) → fitting room p (listed_from p) ≡ none p
-      go (yes h) = fitting_full p room h (stops p.run.place (length p.trace) room (length p.buffer) e f h)
-      go (no h) = fitting_end p room (omega arith)
+full : (p : Point) (room : ℕ) → IsFull p room → fitting room p (listed_from p) ≡ none p
+full p room f = go (dec_lt p.run.place (length p.trace))
+  where
+    go : Dec (p.run.place < length p.trace) → fitting room p (listed_from p) ≡ none p
+    go (yes h) = fitting_full p room h (f h)
+    go (no h) = fitting_end p room (omega arith)
 
 -- between two turns: the text is written, and the lines from now on fill what is left
 pub record Written (start now : Point) (before out : List ℕ) (count : ℕ) : Type 0 where
@@ -141,13 +104,13 @@ module _ (start : Point) (before : List ℕ) where
   unfolding filled overlay
   filled_not h = rw (lt-leb start.run.index start.run.place h)
 
-  pub written_all : {p : Point} {out : List ℕ} {count : ℕ} {b : Bool} → start.run.index ≤ start.run.place
+  pub written_all : {p : Point} {out : List ℕ} {count : ℕ} → start.run.index ≤ start.run.place
       → Written start p before out count
-      → b ≡ test p.run.place (length p.trace) (length out - count) (length p.buffer) → b ≡ false
+      → IsFull p (length out - count)
       → fills_at count p out ≡ filled start before
-  written_all {p} {out} {count} c w e f =
+  written_all {p} {out} {count} c w f =
       let no_more : fitting (length before - count) p (listed_from p) ≡ none p =
-      ap (λ (k : ℕ). fitting (k - count) p (listed_from p)) (sym w.long) ∙ full p (length out - count) e f in
+      ap (λ (k : ℕ). fitting (k - count) p (listed_from p)) (sym w.long) ∙ full p (length out - count) f in
       let all : fitting (length before) start (listed_from start) ≡ lines_of w.text p =
       w.rest ∙ ap (behind w.text) no_more ∙ ap (λ (t : List ℕ). lines_of t p) (append-nil w.text) in
       let counted : count ≡ length w.text = w.put.ends ∙ zero-add (length w.text) in

@@ -4,6 +4,7 @@ pub mod Steps
 pub mod Showing
 pub mod Openings
 pub mod Turns
+pub mod Lending
 pub mod Fillings
 pub mod OneAnswer
 pub mod Listings

@@ -1,20 +1,17 @@
 -- The header's checks, each by the test that the code makes; and what a start leaves.
-use Rattle.std.proofs.Common.{◌≡◌, ℕ, ◌*◌, ◌<◌, ◌≤◌, Bool, true, false, cond, T, ltb, leb, List, [], length, sym, refl, ap, ◌∙◌, subst}
-use Rattle.std.proofs.Common.{mul-le-mul, zero-add, arith, leb→le, length-take-le, le-ltb, lt-ltb, le-leb}
-use mathlib.Core.Bool.{and-true}
-use Rattle.io.specs.Counts.{IsPrefixLen}
-use borrow.Author.Tests.{lt-leb}
-use Rattle.rules.specs.Bytes.{all_of}
+use Rattle.std.proofs.Common.{Ok, Err, ◌≡◌, ℕ, ◌*◌, ◌<◌, ◌≤◌, Bool, true, false, cond, T, ltb, List, [], length, sym, refl, ap, ◌∙◌, subst}
+use Rattle.std.proofs.Common.{mul-le-mul, zero-add, arith, leb→le, le-ltb, lt-ltb}
 use Rattle.rules.proofs.Facts.{each, passed, limited}
 use Rattle.rules.specs.Sizes.{setup_in_range, max_size, max_domains, max_pages, max_contexts, max_frames}
 use Rattle.rules.specs.declared.Setup.{Setup}
+use Rattle.rules.specs.declared.Refusal.{Refusal}
+use Rattle.rules.specs.declared.Refusal.TheVariants.{CutShort, NotAcceptable}
 use Rattle.rules.specs.Asked.{Limited}
 use Rattle.trace_form.specs.Header.{setup_in, header_values}
 use Rattle.trace_form.proofs.Headers.{read_in_range}
-use Rattle.trace_read.specs.Reading.{sizes_of, sizes_whole, sizes_at, header_at}
+use Rattle.trace_read.specs.Reading.{Header, opened_at, records_from, sizes_of, sizes_whole, sizes_at, header_at}
+use Rattle.trace_read.specs.declared.Opened.{Opened}
 use Rattle.trace_read.proofs.Headers.{opened}
-use Rattle.trace_read.specs.declared.Header.{Header}
-use Rattle.trace_read.specs.declared.Header.TheVariants.{Sizes, Refused}
 use Rattle.core_answer.specs.Handed.{Left}
 use Rattle.core_entry.specs.Started.{started}
 use Rattle.listing_line.specs.Lines.{refused_line, Put}
@@ -37,17 +34,8 @@ module _ (s : Setup) (r : Limited s) where
   pub store_counted : store_length s ≤ max_domains * max_pages * max_size
   store_counted = mul-le-mul pages_counted r.size
 
-module _ (s : Setup) where
-  pub frames_too_many : limit < frames_length s → false ≡ products_fit s
-  unfolding products_fit all_of
-  frames_too_many h = rw (lt-leb (frames_length s) limit h)
-
-  pub store_decides : frames_length s ≤ limit → leb (store_length s) limit ≡ products_fit s
-  unfolding products_fit all_of
-  store_decides h = rw (le-leb (frames_length s) limit h, and-true (leb (store_length s) limit))
-
 module _ (trace : List ℕ) where
-  pub too_long : limit < length trace → Refused 10 ≡ opening_at trace
+  pub too_long : limit < length trace → Err NotAcceptable ≡ opening_at trace
   unfolding opening_at
   too_long h = rw (lt-ltb limit (length trace) h)
 
@@ -56,53 +44,53 @@ module _ (trace : List ℕ) where
     unfolding opening_at
     by_sizes {x} e = rw (le-ltb limit (length trace) h) (ap (opening_of trace) (sym e ∙ sizes))
 
-    module _ {s : Setup} {at : ℕ} (e : r ≡ Sizes s at) where
-      pub setup_read : Limited s
+    module _ {o : Opened} (e : r ≡ Ok o) where
+      pub setup_read : Limited o.setup
       unfolding sizes_at header_values
-      setup_read = limited s (go (sizes_whole trace) (sym sizes ∙ e))
+      setup_read = limited o.setup (go (sizes_whole trace) (sym sizes ∙ e))
         where
-          go : (b : Bool) → cond b (sizes_of (setup_in (header_values trace))) (Refused 9) ≡ Sizes s at → T (setup_in_range s)
+          go : (b : Bool) → cond b (sizes_of (setup_in (header_values trace))) (Err CutShort) ≡ Ok o → T (setup_in_range o.setup)
           go true q =
-              let same : s ≡ setup_in (header_values trace) = cc in
-              subst (λ (x : Setup). T (setup_in_range x)) (sym same) (read_in_range _)
-          go false q = let z : ◌≡◌ {A = ℕ} 0 1 = cc in absurd (omega arith)
+              let same : opened_at (setup_in (header_values trace)) (records_from (setup_in (header_values trace))) ≡ o = cc q in
+              subst (λ (x : Opened). T (setup_in_range x.setup)) same (read_in_range _)
+          go false q = absurd (cc)
 
-      pub products_fit_holds : {b : Bool} → b ≡ products_fit s → b ≡ true → header_at trace ≡ opening_at trace
+      pub products_fit_holds : {b : Bool} → b ≡ products_fit o.setup → b ≡ true → header_at trace ≡ opening_at trace
       unfolding opening_of
       products_fit_holds p b = rw (sym p ∙ b) at (by_sizes e)
 
-      pub products_not : {b : Bool} → b ≡ products_fit s → b ≡ false → Refused 10 ≡ opening_at trace
+      pub products_not : {b : Bool} → b ≡ products_fit o.setup → b ≡ false → Err NotAcceptable ≡ opening_at trace
       unfolding opening_of
       products_not p b = rw (sym p ∙ b) at (by_sizes e)
 
-    pub sizes_refused : {n : ℕ} → r ≡ Refused n → Refused n ≡ opening_at trace
+    pub sizes_refused : {n : Refusal} → r ≡ Err n → Err n ≡ opening_at trace
     unfolding opening_of
     sizes_refused e = by_sizes e
 
 -- what is known of a setup that trace-run takes
-module _ (trace : List ℕ) (s : Setup) (at : ℕ) (e : opening_at trace ≡ Sizes s at) where
-  refused_not : {n : ℕ} → Refused n ≡ Sizes s at → ⊥
-  refused_not q = let z : ◌≡◌ {A = ℕ} 0 1 = cc in omega arith
+module _ (trace : List ℕ) (o : Opened) (e : opening_at trace ≡ Ok o) where
+  abbrev s : Setup
+  s = o.setup
 
-  taken : (b : Bool) (h : Header) → cond b h (Refused 10) ≡ Sizes s at → (b ≡ true) × (h ≡ Sizes s at)
+  taken : (b : Bool) (h : Header) → cond b h (Err NotAcceptable) ≡ Ok o → (b ≡ true) × (h ≡ Ok o)
   taken true h q = (refl, q)
-  taken false h q = absurd (refused_not q)
+  taken false h q = absurd (cc)
 
   abbrev read : Setup
   read = setup_in (header_values trace)
 
-  both : (products_fit read ≡ true) × (header_at trace ≡ Sizes s at)
+  both : (products_fit read ≡ true) × (header_at trace ≡ Ok o)
   unfolding opening_at opening_of sizes_at
   both = go (ltb limit (length trace)) (sizes_whole trace) e
     where
-      go : (a b : Bool) → cond a (Refused 10) (opening_of trace (cond b (sizes_of read) (Refused 9))) ≡ Sizes s at
-          → (products_fit read ≡ true) × (header_at trace ≡ Sizes s at)
-      go true b q = absurd (refused_not q)
+      go : (a b : Bool) → cond a (Err NotAcceptable) (opening_of trace (cond b (sizes_of read) (Err CutShort))) ≡ Ok o
+          → (products_fit read ≡ true) × (header_at trace ≡ Ok o)
+      go true b q = absurd (cc)
       go false true q = taken (products_fit read) (header_at trace) q
-      go false false q = absurd (refused_not q)
+      go false false q = absurd (cc)
 
   is_read : s ≡ read
-  is_read = (opened s at trace both.1).setup
+  is_read = (opened o trace both.1).setup
 
   fitting : T (products_fit s)
   fitting = passed (products_fit s) (rw is_read both.0)
@@ -150,6 +138,3 @@ module _ (number : ℕ) (out : List ℕ) where
   room_for_it {r} {after} h p =
       let counted : r ≡ length (refused_line 0 number 0) = p.ends ∙ zero-add _ in
       rw (le-ltb (length out) numbers_room h, counted, p.bytes)
-
-pub counts_in : (n : ℕ) (xs : List ℕ) → n ≤ length xs → IsPrefixLen n xs
-counts_in n xs h = (h, sym (length-take-le n xs h))

@@ -1,13 +1,11 @@
 -- The laws of the listing: every line brings the run forward, so the lines from a point are its next line and those from the point
 -- behind that; and an output filled with lines holds the first of them.
 use Rattle.std.proofs.Common.{◌≡◌, ℕ, zero, suc, ◌+◌, ◌-◌, ◌<◌, ◌≤◌, List, [], ◌∷◌, ◌++◌, length, sym, refl, ap, ◌∙◌, arith, length-drop}
-use Rattle.std.proofs.Common.{le-ltb, lt-ltb, le-leb}
+use Rattle.std.proofs.Common.{Some, None, Ok, Err, le-ltb, lt-ltb, le-leb}
 use native.Mathlib.Decide.{dec_lt}
 use borrow.Author.Tests.{lt-leb}
 use Rattle.trace_form.specs.Form.{first}
-use Rattle.trace_read.specs.Reading.{read_at}
-use Rattle.trace_read.specs.declared.Found.{Found}
-use Rattle.trace_read.specs.declared.Found.TheVariants.{End, Refused, Record}
+use Rattle.trace_read.specs.Reading.{Found, read_at}
 use Rattle.trace_laws.proofs.Records.{stands, takes_a_byte}
 use Rattle.trace_laws.proofs.Wholes.{first_right}
 use Rattle.listing.specs.Listing.{Point, Listed, unread, event_listed, listed_as, listed, listed_in, listed_from}
@@ -24,11 +22,11 @@ pub record Ahead (p q : Point) : Type 0 where
 module _ (p : Point) (more : p.run.place < length p.trace) where
   ahead_as : (found : Found) → read_at first (unread p) p.run.place ≡ found → Ahead p (listed_as p found).next
   unfolding listed_as event_listed
-  ahead_as End e = record { trace = refl; further = more; inside = omega arith; counted = λ c. omega arith }
-  ahead_as (Refused n) e = record { trace = refl; further = more; inside = omega arith; counted = λ c. omega arith }
-  ahead_as (Record v start len next) e =
-      let st = stands v start len next first (unread p) p.run.place e in
-      let some = takes_a_byte first first_right (unread p) p.run.place v start len next st in
+  ahead_as (Ok None) e = record { trace = refl; further = more; inside = omega arith; counted = λ c. omega arith }
+  ahead_as (Err n) e = record { trace = refl; further = more; inside = omega arith; counted = λ c. omega arith }
+  ahead_as (Ok (Some r)) e =
+      let st = stands r first (unread p) p.run.place e in
+      let some = takes_a_byte first first_right (unread p) p.run.place r st in
       let rest = length-drop p.run.place p.trace in
       record {
         trace = refl;

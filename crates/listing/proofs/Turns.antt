@@ -1,23 +1,24 @@
 -- One turn: what the core and the line's writer leave is the listing's next line and the point behind it.
-use Rattle.std.proofs.Common.{◌≡◌, ℕ, ◌+◌, ◌-◌, ◌<◌, ◌≤◌, List, length, take, sym, ap, ◌∙◌, le_of_eq, add-zero, arith, length-drop}
+use Rattle.std.proofs.Common.{Some, None, Ok, Err, ◌≡◌, ℕ, ◌+◌, ◌-◌, ◌<◌, ◌≤◌}
+use Rattle.std.proofs.Common.{List, length, take, sym, ap, ◌∙◌, subst, le_of_eq, add-zero, arith, length-drop}
 use Rattle.std.proofs.Common.{length-take-le, take_all}
-use lib.ListN.{get_or-eq_default}
 use Rattle.rules.specs.Bytes.{overlay}
 use Rattle.rules.specs.Events.{kind_of}
+use Rattle.rules.specs.Refusals.{number_of}
 use Rattle.rules.specs.declared.Event.{Event}
+use Rattle.rules.specs.declared.Refusal.{Refusal}
 use Rattle.trace_form.specs.Form.{first}
-use Rattle.trace_read.specs.Reading.{read_at, data_in}
-use Rattle.trace_read.specs.declared.Found.{Found}
-use Rattle.trace_read.specs.declared.Found.TheVariants.{End, Refused, Record}
+use Rattle.trace_read.specs.Reading.{Found, read_at, data_in}
+use Rattle.trace_read.specs.declared.Record.{Record}
 use Rattle.trace_laws.proofs.Records.{stands, takes_a_byte}
 use Rattle.trace_laws.proofs.Wholes.{first_right}
-use Rattle.core_tables.specs.Image.{used_at}
 use Rattle.core_answer.specs.Handed.{Left, handed, stepped}
 use Rattle.listing_line.specs.Lines.{decimal, line, refused_line, Put}
-use Rattle.listing.specs.Listing.{Point, Listed, supply_of, unread, shown_length, event_line, behind, handed_at, event_listed}
+use Rattle.listing.specs.Listing.{Point, Listed, supply_of, unread, shown_length, event_line, handed_at, event_listed}
+use Rattle.listing.specs.Listing.{behind_run, ended_run}
 use Rattle.listing.specs.Listing.{used_in, listed_as, listed}
-use Rattle.listing.specs.Filling.{left, ended_fill, turns}
-use Rattle.listing.specs.declared.Filled.{Filled}
+use Rattle.listing.specs.Filling.{left, turns}
+use Rattle.listing.specs.declared.Run.{Run}
 use Rattle.listing.proofs.Showing.{shown_fits, length_buffer}
 
 -- n bytes at the front of an answer buffer, which is as long as it was before
@@ -48,15 +49,12 @@ module _ (p : Point) (e : Event) (next : ℕ) (new supply : List ℕ) {l : Left}
   unfolding event_line
   same_line = rw (some, left_by)
 
-  pub event_turns : {k at r : ℕ} {out after : List ℕ} → k ≡ kind_of e
-      → Put at (line p.run.index (decimal k) l.answer (take n l.buffer)) out r after
-      → record { count = r; end = behind p next l; out = after } ≡ turns at (event_listed p e next new) out
+  pub event_turns : {run : Run} {k at r : ℕ} {out after : List ℕ} → k ≡ kind_of e
+      → Put at (line p.run.index (decimal k) l.answer (take n l.buffer)) out r after → run ≡ behind_run p.run next
+      → left (record { run = run; count = r }) p.trace l.tables l.saved l.frames l.store l.buffer after
+      ≡ turns at (event_listed p e next new) out
   unfolding event_listed
-  event_turns kind put = rw (put.ends, put.bytes, kind, same_line, left_by)
-
--- the used count where there are too few words
-pub used_none : (tables : List ℕ) → length tables ≤ used_at → 0 ≡ used_in tables
-used_none tables h = sym (get_or-eq_default tables 0 h)
+  event_turns kind put is = rw (is, put.ends, put.bytes, kind, same_line, left_by)
 
 -- what the reader finds at the run's place: the code hands it all that is behind that place
 module _ (p : Point) {found : Found}
@@ -71,31 +69,34 @@ module _ (p : Point) {found : Found}
   unfolding listed
   as_listed e = ap (listed_as p) (sym e ∙ is)
 
-  module _ {e : Event} {start len next : ℕ} (r : found ≡ Record e start len next) where
+  module _ {r : Record} (e : found ≡ Ok (Some r)) where
     pub record_turns : (at : ℕ) (out : List ℕ) {new : List ℕ}
-        → new ≡ data_in (Record e start len next) (take (length p.trace - p.run.place) (unread p))
-        → turns at (event_listed p e next new) out ≡ turns at (listed p) out
+        → new ≡ data_in (Some r) (take (length p.trace - p.run.place) (unread p))
+        → turns at (event_listed p r.event r.next new) out ≡ turns at (listed p) out
     unfolding listed_as
     record_turns at out {new} d =
-        let brings : new ≡ data_in (Record e start len next) (unread p) =
-        d ∙ ap (data_in (Record e start len next)) to_end in
-        ap (λ (l : Listed). turns at l out) (ap (event_listed p e next) brings ∙ as_listed r)
+        let brings : new ≡ data_in (Some r) (unread p) = d ∙ ap (data_in (Some r)) to_end in
+        ap (λ (l : Listed). turns at l out) (ap (event_listed p r.event r.next) brings ∙ as_listed e)
 
-    pub record_further : p.run.index ≤ p.run.place → p.run.index < next
+    pub record_further : p.run.index ≤ p.run.place → p.run.index < r.next
     record_further c =
-        let st = stands e start len next first (unread p) p.run.place (sym is ∙ r) in
-        omega (arith, st.next_at, takes_a_byte first first_right (unread p) p.run.place e start len next st)
+        let st = stands r first (unread p) p.run.place (sym is ∙ e) in
+        omega (arith, st.next_at, takes_a_byte first first_right (unread p) p.run.place r st)
 
-  module _ (at : ℕ) (out : List ℕ) {f : Filled} {r : ℕ} (ends : f ≡ ended_fill p.run (length p.trace) r) where
-    pub refused_turns : {n used : ℕ} {after : List ℕ} → found ≡ Refused n → used ≡ used_in p.tables
+  module _ (at : ℕ) (out : List ℕ) {run : Run} (ends : run ≡ ended_run p.run (length p.trace)) where
+    pub refused_turns : {why : Refusal} {n used r : ℕ} {after : List ℕ} → found ≡ Err why → n ≡ number_of why → used ≡ used_in p.tables
         → Put at (refused_line p.run.index n used) out r after
-        → left f p.trace p.tables p.saved p.frames p.store p.buffer after ≡ turns at (listed p) out
+        → left (record { run = run; count = r }) p.trace p.tables p.saved p.frames p.store p.buffer after ≡ turns at (listed p) out
     unfolding listed_as
-    refused_turns e told put = rw (ends, put.ends, put.bytes, told) (ap (λ (l : Listed). turns at l out) (as_listed e))
+    refused_turns e number told put =
+        rw (ends, put.ends, put.bytes, number, told) (ap (λ (l : Listed). turns at l out) (as_listed e))
 
-    pub end_turns : r ≡ at → found ≡ End
-        → left f p.trace p.tables p.saved p.frames p.store p.buffer out ≡ turns at (listed p) out
+    pub end_turns : found ≡ Ok None
+        → left (record { run = run; count = at }) p.trace p.tables p.saved p.frames p.store p.buffer out ≡ turns at (listed p) out
     unfolding listed_as overlay
-    end_turns s e =
-        let none : r ≡ at + 0 = s ∙ sym (add-zero at) in
-        rw (ends, none) (ap (λ (l : Listed). turns at l out) (as_listed e))
+    end_turns e =
+        let none : at ≡ at + 0 = sym (add-zero at) in
+        subst
+        (λ (k : ℕ). left (record { run = run; count = k }) p.trace p.tables p.saved p.frames p.store p.buffer out ≡ turns at (listed p) out)
+        (sym none)
+        (rw ends (ap (λ (l : Listed). turns at l out) (as_listed e)))

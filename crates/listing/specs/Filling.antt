@@ -2,7 +2,7 @@
 use Rattle.std.specs.Prelude.{ℕ, ◌+◌, ◌-◌, ◌*◌, ◌<◌, ◌≤◌, cond, List, [], ◌∷◌, ◌++◌, length, nat_le, nat_lt}
 use Rattle.rules.specs.Bytes.{overlay}
 use Rattle.listing_line.specs.Lines.{refused_line}
-use Rattle.listing.specs.Listing.{Point, Listed, point, ended_run, listed_from}
+use Rattle.listing.specs.Listing.{Point, Listed, point, listed_from}
 use Rattle.listing.specs.declared.Run.{Run}
 use Rattle.listing.specs.declared.Filled.{Filled}
 
@@ -43,9 +43,6 @@ left r trace tables saved frames store buffer out =
 
 abbrev pub fills : Lines → List ℕ → Fills
 fills l out = record { count = length l.text; end = l.end; out = overlay 0 l.text out }
-
-abbrev pub ended_fill : Run → ℕ → ℕ → Filled
-ended_fill run end count = record { run = ended_run run end; count = count }
 
 -- one line, from at on
 abbrev pub turns : ℕ → Listed → List ℕ → Fills

@@ -1,7 +1,9 @@
 -- Document 01, "The trace form": the listing of a trace, by the reader's steps and the core's. A point is what a run has come to, with
 -- every lent word and byte in it; from it follow its next line and the point behind that, and so all the lines to the end.
-use Rattle.std.specs.Prelude.{ℕ, zero, suc, ◌+◌, Bool, cond, ◌&&◌, ◌||◌, List, [], ◌∷◌, ◌++◌, length, take, drop, ◌==◌, nat_lt, slice_index}
+use Rattle.std.specs.Prelude.{ℕ, zero, suc, ◌+◌, Bool, cond, ◌&&◌, ◌||◌, List, [], ◌∷◌, ◌++◌, Some, None, Ok, Err, length, take, drop, ◌==◌}
+use Rattle.std.specs.Prelude.{nat_lt, slice_index}
 use Rattle.rules.specs.Bytes.{zeros}
+use Rattle.rules.specs.Refusals.{number_of}
 use Rattle.rules.specs.Events.{kind_of, answer_length}
 use Rattle.rules.specs.declared.Setup.{Setup}
 use Rattle.rules.specs.declared.Event.{Event}
@@ -9,11 +11,7 @@ use Rattle.core_tables.specs.Image.{used_at, image_words}
 use Rattle.core_answer.specs.Handed.{Handed, Left, handed, stepped}
 use Rattle.core_entry.specs.Started.{started}
 use Rattle.trace_form.specs.Form.{first}
-use Rattle.trace_read.specs.Reading.{header_at, supply_in, read_at, data_in}
-use Rattle.trace_read.specs.declared.Found.{Found}
-use Rattle.trace_read.specs.declared.Found.TheVariants.{End, Refused, Record}
-use Rattle.trace_read.specs.declared.Header.{Header}
-use Rattle.trace_read.specs.declared.Header.TheVariants.{Sizes, Refused as NoHeader}
+use Rattle.trace_read.specs.Reading.{Header, Found, header_at, supply_in, read_at, data_in}
 use Rattle.listing_line.specs.Lines.{decimal, line, refused_line}
 use Rattle.listing.specs.Opening.{saved_length, frames_length, store_length, opening_at}
 use Rattle.listing.specs.declared.Run.{Run}
@@ -67,10 +65,14 @@ shown e l = take (shown_length e l.answer.number) l.buffer
 unfoldable pub event_line : ℕ → Event → Left → List ℕ
 event_line index e l = line index (decimal (kind_of e)) l.answer (shown e l)
 
--- behind a record: what its event leaves
+-- behind a record, which ends at next
+abbrev pub behind_run : Run → ℕ → Run
+behind_run run next = run_at run.setup next (run.index + 1)
+
+-- what its event leaves there
 abbrev pub behind : Point → ℕ → Left → Point
 behind p next l =
-    point p.trace (run_at p.run.setup next (p.run.index + 1)) l.tables l.saved l.frames l.store l.buffer
+    point p.trace (behind_run p.run next) l.tables l.saved l.frames l.store l.buffer
 
 -- at the trace's end, nothing else changed
 abbrev pub ended_run : Run → ℕ → Run
@@ -96,10 +98,9 @@ used_in tables = slice_index tables used_at
 
 -- a record is an event; one that is refused ends the list
 unfoldable pub listed_as : Point → Found → Listed
-listed_as p End = record { line = []; next = ended p }
-listed_as p (Refused n) = record { line = refused_line p.run.index n (used_in p.tables); next = ended p }
-listed_as p (Record e start len next) =
-    event_listed p e next (data_in (Record e start len next) (unread p))
+listed_as p (Ok None) = record { line = []; next = ended p }
+listed_as p (Ok (Some r)) = event_listed p r.event r.next (data_in (Some r) (unread p))
+listed_as p (Err n) = record { line = refused_line p.run.index (number_of n) (used_in p.tables); next = ended p }
 
 unfoldable pub listed : Point → Listed
 listed p = listed_as p (read_at first (unread p) p.run.place)
@@ -135,10 +136,11 @@ answer_room = 4096
 
 -- trace-run lends zeros, as many as the setup asks for
 unfoldable pub listing_of : List ℕ → Header → List ℕ
-listing_of trace (NoHeader n) = refused_line 0 n 0
-listing_of trace (Sizes s records) =
+listing_of trace (Err n) = refused_line 0 (number_of n) 0
+listing_of trace (Ok o) =
+    let s = o.setup in
     lines_from
-    (start_point trace s records (zeros image_words) (zeros (saved_length s)) (zeros (frames_length s)) (zeros (store_length s))
+    (start_point trace s o.records (zeros image_words) (zeros (saved_length s)) (zeros (frames_length s)) (zeros (store_length s))
     (zeros answer_room))
 
 -- what trace-run prints

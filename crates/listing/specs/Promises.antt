@@ -1,9 +1,10 @@
 -- The contracts of the functions that go over a trace, over their own parameters: what they leave is the listing's own step from the
 -- point at which they were called.
-use Rattle.std.specs.Prelude.{◌≡◌, ℕ, []}
+use Rattle.std.specs.Prelude.{◌≡◌, ℕ, List, [], length}
 use Rattle.rules.specs.declared.Setup.{Setup}
-use Rattle.rules.specs.declared.Event.{Event}
 use Rattle.core_tables.specs.Lent.{Slice, MutSlice}
+use Rattle.core_answer.specs.declared.lent.Lent.{Lent}
+use Rattle.trace_read.specs.declared.Record.{Record}
 use Rattle.listing.specs.Listing.{Point, point, event_listed, listed, start_point}
 use Rattle.listing.specs.Filling.{Fills, left, turns, filled}
 use Rattle.listing.specs.declared.Run.{Run}
@@ -28,17 +29,29 @@ Starts trace setup place tables saved frames store r =
     ≡ start_point trace.entry.now setup place tables.entry.now saved.entry.now frames.entry.now
     store.entry.now []
 
--- the line of an event, and the line of what stands at the run's place, each from at on
-abbrev pub ListsEvent : Run → ℕ → Event → Slice → Slice → MutSlice → MutSlice → MutSlice → MutSlice → MutSlice → MutSlice → ℕ → Filled
-    → Type 0
-ListsEvent run next event new trace tables saved frames store answer out at r =
-    leaves trace tables saved frames store answer out r
-    ≡ turns at (event_listed (called trace run tables saved frames store answer) event next new.entry.now) out.entry.now
+-- the same of what is lent as one
+abbrev pub lent_point : List ℕ → Run → Lent → Point
+lent_point trace run l = point trace run l.tables.now l.saved.now l.frames.now l.store.now l.answer.now
 
-abbrev pub ListsNext : Run → Slice → MutSlice → MutSlice → MutSlice → MutSlice → MutSlice → MutSlice → ℕ → Filled → Type 0
-ListsNext run trace tables saved frames store answer out at r =
-    leaves trace tables saved frames store answer out r
-    ≡ turns at (listed (called trace run tables saved frames store answer)) out.entry.now
+abbrev pub lent_left : Filled → List ℕ → Lent → List ℕ → Fills
+lent_left r trace l out = record { count = r.count; end = lent_point trace r.run l; out = out }
+
+-- the slices that are lent stay the same ones, and the answer buffer as long
+pub record SameLent (before after : Lent) : Type 0 where
+  pub tables : after.tables.ghost_name ≡ before.tables.ghost_name
+  pub saved : after.saved.ghost_name ≡ before.saved.ghost_name
+  pub frames : after.frames.ghost_name ≡ before.frames.ghost_name
+  pub store : after.store.ghost_name ≡ before.store.ghost_name
+  pub answer : after.answer.ghost_name ≡ before.answer.ghost_name
+  pub long : length after.answer.now ≡ length before.answer.now
+
+-- the line of an event, and the line of what stands at the run's place, each from at on
+abbrev pub ListsEvent : Run → Record → List ℕ → List ℕ → Lent → List ℕ → ℕ → Fills → Type 0
+ListsEvent run found new trace lent out at f =
+    f ≡ turns at (event_listed (lent_point trace run lent) found.event found.next new) out
+
+abbrev pub ListsNext : Run → List ℕ → Lent → List ℕ → ℕ → Fills → Type 0
+ListsNext run trace lent out at f = f ≡ turns at (listed (lent_point trace run lent)) out
 
 -- as many lines as surely fit
 abbrev pub ListsFitting : Run → Slice → MutSlice → MutSlice → MutSlice → MutSlice → MutSlice → MutSlice → Filled → Type 0

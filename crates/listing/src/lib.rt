@@ -1,17 +1,18 @@
 // The listing of a trace, as document 01 has trace-run print it: the header's checks, the start, and an output filled with lines.
 #![tactic(auto)]
 
-ghost use Rattle.std.specs.Prelude.{◌≡◌, ◌+◌, ◌<◌, ◌≤◌, [], ◌∷◌, length, nat_le, nat_lt};
+ghost use Rattle.std.specs.Prelude.{◌≡◌, ◌+◌, ◌<◌, ◌≤◌, [], ◌∷◌, length, take, nat_le, nat_lt};
 ghost use Rattle.io.specs.Counts.{IsPrefixLen};
 ghost use Rattle.rules.specs.Bytes.{all_of};
 ghost use Rattle.rules.specs.Asked.{Limited};
 ghost use Rattle.listing.specs.Opening.{products_fit, opening_at};
-ghost use Rattle.listing.specs.Listing.{shown_length, used_in};
-ghost use Rattle.listing.specs.Filling.{Ready, line_room, ended_fill, refusal_wrote};
-ghost use Rattle.listing.specs.Promises.{Starts, ListsEvent, ListsNext, ListsFitting};
+ghost use Rattle.listing.specs.Listing.{shown_length, used_in, behind_run, ended_run};
+ghost use Rattle.listing.specs.Filling.{Ready, line_room, refusal_wrote};
+ghost use Rattle.listing.specs.Promises.{Starts, SameLent, lent_left, ListsEvent, ListsNext, ListsFitting};
 
-use rules::{Answer, Event, Setup};
-use trace_read::{Found, Header};
+use core_answer::Lent;
+use rules::{Answer, Event, Refusal, Setup};
+use trace_read::{Opened, Record};
 
 // Where a run over a trace stands: all that is kept from one call to the next, but for what is lent.
 #[derive(Clone, Copy)]
@@ -20,6 +21,27 @@ pub struct Run {
     // Of the next record: its place in the trace, and its index.
     pub place: usize,
     pub index: usize,
+}
+
+impl Run {
+    // Behind a record, which ends at next.
+    fn behind(self, next: usize) -> Run
+        requires { self.index < next }
+        ensures { result ≡ behind_run self next }
+    {
+        Run {
+            place: next,
+            index: self.index + 1,
+            ..self
+        }
+    }
+
+    // At the trace's end.
+    fn ended(self, end: usize) -> Run
+        ensures { result ≡ ended_run self end }
+    {
+        Run { place: end, ..self }
+    }
 }
 
 // A run behind some lines, and how many bytes of the output those take.
@@ -38,32 +60,26 @@ const LINE: usize = 128;
 // The registers that a trap shows, in bytes.
 const REGISTERS: usize = 64;
 
+#[tactic(auto, unfolding(crate::specs::Opening::products_fit, rules::specs::Bytes::all_of))]
 fn products_fit(setup: Setup) -> bool
     requires { Limited setup }
     ensures { result ≡ products_fit setup }
 {
-    if LIMIT < setup.frames * setup.size {
-        return false;
-    }
-    setup.domains * setup.pages * setup.size <= LIMIT
+    setup.frames * setup.size <= LIMIT && setup.domains * setup.pages * setup.size <= LIMIT
 }
 
-// The setup and the place of the first record, where trace-run takes the trace; or the number that its header is refused with.
-pub fn opening(trace: &[u8]) -> Header
+// The setup and the place of the first record, where trace-run takes the trace; or why its header is refused.
+pub fn opening(trace: &[u8]) -> Result<Opened, Refusal>
     ensures { result ≡ opening_at trace.now }
 {
     if LIMIT < trace.len() {
-        return Header::Refused(Answer::NOT_ACCEPTABLE);
+        return Err(Refusal::NotAcceptable);
     }
-    match trace_read::read_sizes(trace) {
-        Header::Sizes(setup, _) => {
-            if products_fit(setup) {
-                return trace_read::read_header(trace);
-            }
-            Header::Refused(Answer::NOT_ACCEPTABLE)
-        }
-        Header::Refused(number) => Header::Refused(number),
+    let sizes = trace_read::read_sizes(trace)?;
+    if !products_fit(sizes.setup) {
+        return Err(Refusal::NotAcceptable);
     }
+    trace_read::read_header(trace)
 }
 
 // The line of a refused header, over the front of out; nothing where out is shorter than a line may be. How many bytes it takes.
@@ -77,7 +93,8 @@ pub fn refusal(number: u8, out: &mut [u8]) -> usize
     listing_line::refused_line(out, 0, 0, number, 0)
 }
 
-// The run before the record at a place: the core is started over what is lent.
+// The run before the record at a place: the core is started over what is lent. Here and in `fill`, which are public, each part of that
+// is a parameter of its own, as `start_one` and `fill_one` (OneAnswer.antt) read them.
 pub fn start(
     trace: &[u8],
     setup: Setup,
@@ -105,125 +122,96 @@ pub fn start(
 }
 
 // How many bytes of the answer a line shows.
+#[tactic(auto, unfolding(crate::specs::Listing::shown_length, crate::specs::Listing::is_shown))]
 fn shown_length(event: Event, number: u8) -> usize
     ensures { result ≡ shown_length event number }
 {
-    if number != Answer::DONE {
-        return 0;
-    }
     match event {
-        Event::KernelRead(_, span) => span.len,
-        Event::Trap(_, _, _) => REGISTERS,
+        Event::KernelRead(_, span) if number == Answer::DONE => span.len,
+        Event::Trap(..) if number == Answer::DONE => REGISTERS,
         _ => 0,
     }
 }
 
-// An event's line over out from at on; the run behind its record, which ends at next, and the place behind the line.
+// So many bytes at the front of the answer buffer. This and `used` take the whole of what is lent: of one field that is lent to be read,
+// the check keeps the length and not what it holds.
+fn shown<'a>(lent: &'a Lent<'_>, count: usize) -> &'a [u8]
+    requires { count ≤ length lent.now.answer.now }
+    ensures { result.now ≡ take count lent.now.answer.now }
+{
+    &lent.answer[..count]
+}
+
+// The line of a record's event over out from at on; the run behind the record, and the place behind the line. The place stands beside
+// out, and not with it in a cursor, as in `listing_line::event_line`, which is public and whose promise (`Put`) names both.
 fn event_turn(
     run: Run,
-    next: usize,
-    event: Event,
+    found: Record,
     data: &[u8],
     trace: &[u8],
-    tables: &mut [u16],
-    saved: &mut [u64],
-    frames: &mut [u8],
-    store: &mut [u8],
-    answer: &mut [u8],
+    lent: &mut Lent<'_>,
     out: &mut [u8],
     at: usize,
 ) -> Filled
-    requires { (run.index < next) × (at + line_room (length answer.old) ≤ length out.old) }
-    ensures lists { ListsEvent run next event «data» trace tables saved frames store answer out at result }
-    ensures within { result.count ≤ at + line_room (length answer.old) }
+    requires { (run.index < found.next) × (at + line_room (length lent.old.answer.now) ≤ length out.old) }
+    ensures lists { ListsEvent run found «data».now trace.now lent.old out.old at (lent_left result trace.now lent.new out.new) }
+    ensures same { SameLent lent.old lent.new }
+    ensures within { result.count ≤ at + line_room (length lent.old.answer.now) }
 {
-    let s = run.setup;
+    let event = found.event;
     let supply = trace_read::supply(trace);
-    let told = core_entry::step(s, tables, saved, frames, store, supply, event, data, answer);
-    let shown = shown_length(event, told.number);
-    let count = listing_line::event_line(out, at, run.index, event.kind(), told, &answer[..shown]);
-    let behind = Run {
-        setup: s,
-        place: next,
-        index: run.index + 1,
-    };
-    Filled { run: behind, count }
-}
-
-// The run at the trace's end, behind count bytes of the output.
-fn ended(run: Run, end: usize, count: usize) -> Filled
-    ensures { result ≡ ended_fill run end count }
-{
-    let setup = run.setup;
-    let last = Run {
-        setup,
-        place: end,
-        index: run.index,
-    };
-    Filled { run: last, count }
+    let told = core_entry::step(
+        run.setup,
+        lent.tables,
+        lent.saved,
+        lent.frames,
+        lent.store,
+        supply,
+        event,
+        data,
+        lent.answer,
+    );
+    let shown = shown(lent, shown_length(event, told.number));
+    let count = listing_line::event_line(out, at, run.index, event.kind(), told, shown);
+    Filled {
+        run: run.behind(found.next),
+        count,
+    }
 }
 
 // The used count as it stands, which the line of a refused record tells; 0 where the words are too few to have one.
-fn used(tables: &[u16]) -> u16
-    ensures { result ≡ used_in tables.now }
+fn used(lent: &Lent<'_>) -> u16
+    ensures { result ≡ used_in lent.now.tables.now }
 {
-    if tables.len() <= core_tables::USED_AT {
-        return 0;
-    }
-    tables[core_tables::USED_AT]
+    lent.tables.get(core_tables::USED_AT).copied().unwrap_or(0)
 }
 
 // The line of what stands at the run's place, over out from at on; the run behind it, and the place behind the line.
-fn turn(
-    run: Run,
-    trace: &[u8],
-    tables: &mut [u16],
-    saved: &mut [u64],
-    frames: &mut [u8],
-    store: &mut [u8],
-    answer: &mut [u8],
-    out: &mut [u8],
-    at: usize,
-) -> Filled
-    requires { Ready trace.now run (length answer.old) (length out.old) at }
-    ensures lists { ListsNext run trace tables saved frames store answer out at result }
-    ensures within { result.count ≤ at + line_room (length answer.old) }
+fn turn(run: Run, trace: &[u8], lent: &mut Lent<'_>, out: &mut [u8], at: usize) -> Filled
+    requires { Ready trace.now run (length lent.old.answer.now) (length out.old) at }
+    ensures lists { ListsNext run trace.now lent.old out.old at (lent_left result trace.now lent.new out.new) }
+    ensures same { SameLent lent.old lent.new }
+    ensures within { result.count ≤ at + line_room (length lent.old.answer.now) }
 {
-    let place = run.place;
-    let unread = &trace[place..];
-    let found = trace_read::record_at(unread, place);
-    match found {
-        Found::Record {
-            event,
-            start: _,
-            len: _,
-            next,
-        } => {
-            let new = trace_read::data_of(unread, found);
-            event_turn(
-                run, next, event, new, trace, tables, saved, frames, store, answer, out, at,
-            )
+    let unread = &trace[run.place..];
+    match trace_read::record_at(unread, run.place) {
+        Ok(Some(found)) => {
+            let new = trace_read::data_of(unread, Some(found));
+            event_turn(run, found, new, trace, lent, out, at)
         }
-        Found::Refused(number) => {
-            let told = used(tables);
-            let count = listing_line::refused_line(out, at, run.index, number, told);
-            ended(run, trace.len(), count)
+        Ok(None) => Filled {
+            run: run.ended(trace.len()),
+            count: at,
+        },
+        Err(refusal) => {
+            let told = used(lent);
+            let count = listing_line::refused_line(out, at, run.index, refusal.into(), told);
+            Filled {
+                run: run.ended(trace.len()),
+                count,
+            }
         }
-        Found::End => ended(run, trace.len(), at),
     }
-}
-
-// Whether a line is to follow: bytes of the trace are left, and the longest line fits.
-fn goes_on(place: usize, end: usize, room: usize, answer: usize) -> bool
-    ensures { result ≡ all_of (nat_lt place end ∷ nat_le (line_room answer) room ∷ []) }
-{
-    if end <= place {
-        return false;
-    }
-    if room < LINE {
-        return false;
-    }
-    answer <= (room - LINE) / 2
 }
 
 // Fills out with whole lines, as many as surely fit. The run behind them, and how many bytes they take.
@@ -240,17 +228,21 @@ pub fn fill(
     ensures lists { ListsFitting run trace tables saved frames store answer out result }
     ensures within { IsPrefixLen result.count out.new }
 {
-    let mut after = run;
-    let mut count: usize = 0;
+    let mut filled = Filled { run, count: 0 };
     if run.place < run.index {
-        return Filled { run, count };
+        return filled;
     }
-    while goes_on(after.place, trace.len(), out.len() - count, answer.len()) {
-        let next = turn(
-            after, trace, tables, saved, frames, store, answer, out, count,
-        );
-        after = next.run;
-        count = next.count;
+    // where that is no usize, no output is so long
+    let longest = LINE.saturating_add(2 * answer.len());
+    let mut lent = Lent {
+        tables,
+        saved,
+        frames,
+        store,
+        answer,
+    };
+    while filled.run.place < trace.len() && longest <= out.len() - filled.count {
+        filled = turn(filled.run, trace, &mut lent, out, filled.count);
     }
-    Filled { run: after, count }
+    filled
 }

@@ -2,6 +2,7 @@
 use mathlib.Core.Path.{◌≡◌, ap, ◌∙◌, subst}
 use mathlib.Core.List.{List, [], ◌∷◌, ◌++◌}
 use Prim.Native.Nat.{ℕ, ◌+◌, ◌<◌}
+use native.Mathlib.Nat.{add_assoc}
 use native.Mathlib.Omega.{arith}
 use lib.ListN.{length, set}
 use Rattle.io.specs.Digits.{last_digits, IsDigitCount}
@@ -17,9 +18,9 @@ module _ (at n : ℕ) where
 
   pub number_put : (k : ℕ) (text before between : List ℕ) → IsDigitCount 10 1 n k → text ≡ last_digits 10 k n → k ≡ length text
       → between ≡ overlay at text before
-      → Put at (field_then (decimal n) []) before (at + k + 1) (set between (at + k) space)
+      → Put at (field_then (decimal n) []) before (at + (k + 1)) (set between (at + k) space)
   number_put k text before between least spells long e =
       let is : text ≡ decimal n = spells ∙ fewest k n least in
       let front : Put at (decimal n) before (at + k) between =
       record { ends = omega (arith, ap length is); bytes = e ∙ ap (λ (l : List ℕ). overlay at l before) is } in
-      put_then front (put_one (at + k) space between)
+      rw (← add_assoc at k 1) (put_then front (put_one (at + k) space between))

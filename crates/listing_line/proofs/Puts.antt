@@ -1,7 +1,7 @@
 -- Texts put one behind the other are one text, and hex byte by byte.
 use mathlib.Core.Path.{◌≡◌, refl, sym, ap, ap₂, ◌∙◌}
 use mathlib.Core.List.{List, [], ◌∷◌, ◌++◌, append_assoc}
-use Prim.Native.Nat.{ℕ, suc, ◌+◌, ◌*◌, ◌/◌, ◌%◌, ◌≤◌, ◌<◌}
+use Prim.Native.Nat.{ℕ, suc, ◌+◌, ◌*◌, ◌/◌, ◌%◌, ◌<◌, ◌≤◌}
 use native.Mathlib.Nat.{add-zero}
 use native.Mathlib.Numerals.{add-one}
 use native.Mathlib.Omega.{arith}
@@ -11,6 +11,8 @@ use Rattle.io.specs.Digits.{hex_digit_ascii}
 use Rattle.rules.specs.Bytes.{overlay}
 use Rattle.rules.specs.declared.Answer.{Answer}
 use Rattle.listing_line.specs.Lines.{dash, hex, last_field, field_then, counts_then, Put}
+use Rattle.listing_line.specs.Writing.{Writes}
+use Rattle.listing_line.specs.declared.Cursor.{Cursor}
 
 sets_append : (a b l : List ℕ) (i : ℕ) → sets (sets l i a) (i + length a) b ≡ sets l i (a ++ b)
 sets_append [] b l i = ap (λ (k : ℕ). sets l k b) (add-zero i)
@@ -30,15 +32,31 @@ module _ {at r q : ℕ} {a b before between after : List ℕ} where
             ∙ sets_append a b before at;
       }
 
-module _ {at r q : ℕ} {rest before between after : List ℕ} where
-  pub field_then_holds : (f : List ℕ) → Put at (field_then f []) before r between → Put r rest between q after
-      → Put at (field_then f rest) before q after
-  field_then_holds f p n = rw append_assoc at (put_then p n)
+-- the same of what is written
+module _ {m n : ℕ} {before between after : Cursor} where
+  pub then : {a b : List ℕ} → Writes a m before between → Writes b n between after → Writes (a ++ b) (m + n) before after
+  then p q =
+      record {
+        put = put_then p.put q.put;
+        within = omega arith;
+        long = q.long ∙ p.long;
+        same_reference = q.same_reference ∙ p.same_reference;
+      }
 
-  pub counts_then_holds : (x : Answer) → Put at (counts_then x []) before r between → Put r rest between q after
-      → Put at (counts_then x rest) before q after
+  pub field_then_holds : (f : List ℕ) {rest : List ℕ} → Writes (field_then f []) m before between → Writes rest n between after
+      → Writes (field_then f rest) (m + n) before after
+  field_then_holds f p q = rw append_assoc at (then p q)
+
+  pub counts_then_holds : (x : Answer) {rest : List ℕ} → Writes (counts_then x []) m before between → Writes rest n between after
+      → Writes (counts_then x rest) (m + n) before after
   unfolding counts_then
-  counts_then_holds x p n = simp append_assoc at (put_then p n)
+  counts_then_holds x p q = simp append_assoc at (then p q)
+
+-- once the reference is given back, its owner has what was left behind it
+module _ {text after : List ℕ} {n : ℕ} {start end : Cursor} where
+  pub given_back : Writes text n start end → (start.out.ghost_name ≡ end.out.ghost_name → after ≡ end.out.now)
+      → Put start.at text start.out.now end.at after
+  given_back w back = rw (back (sym w.same_reference)) w.put
 
 -- one byte, and two
 pub put_one : (at x : ℕ) (before : List ℕ) → Put at (x ∷ []) before (at + 1) (set before at x)

@@ -1,2 +1,3 @@
 -- What the lines of a listing are made of.
 pub mod Lines
+pub mod Writing

@@ -1,97 +1,107 @@
 // A line of the listing, written over an output from a place on: an event's, and that of a record or header which is refused.
-// The inner layer under runner: each function asks that there is room, and its callers show it.
+// The inner layer under `listing`: each function asks that there is room, and its callers show it.
 #![tactic(auto)]
 
 ghost use Rattle.std.specs.Prelude.{◌≡◌, ◌+◌, ◌*◌, ◌≤◌, ◌<◌, [], ◌∷◌, ◌++◌, length};
 ghost use Rattle.io.specs.Digits.{hex_digit_ascii};
 ghost use Rattle.listing_line.specs.Lines.{newline, dash, decimal, hex as hex_of, last_field, field_then, counts_then, line};
 ghost use Rattle.listing_line.specs.Lines.{refused_line, Put};
+ghost use Rattle.listing_line.specs.Writing.{Room, Writes};
 
 use rules::Answer;
-
-const SPACE: u8 = 32;
-
-const NEWLINE: u8 = 10;
-
-const DASH: u8 = 45;
-
-// Two bytes.
-fn pair(out: &mut [u8], at: usize, first: u8, second: u8) -> usize
-    requires { at + 2 ≤ length out.old }
-    ensures { Put at (first ∷ second ∷ []) out.old result out.new }
-{
-    out[at] = first;
-    out[at + 1] = second;
-    at + 2
-}
-
-// A decimal number, and a space. Most are one digit.
-#[tactic(auto, using(crate::proofs::Decimals::few))]
-fn number(out: &mut [u8], at: usize, n: u64) -> usize
-    requires { at + 21 ≤ length out.old }
-    ensures put { Put at (field_then (decimal n) []) out.old result out.new }
-    ensures within { result ≤ at + 21 }
-{
-    if n < 10 {
-        return pair(out, at, 48 + n as u8, SPACE);
-    }
-    let mut text = [0u8; 20];
-    let count = io::decimal(n, &mut text);
-    core_bytes::put(out, at, &text[..count]);
-    let end = at + count;
-    out[end] = SPACE;
-    end + 1
-}
 
 // A hex digit.
 fn digit(d: u8) -> u8
     requires { d < 16 }
     ensures { result ≡ hex_digit_ascii d }
 {
-    if d < 10 { 48 + d } else { 87 + d }
+    if d < 10 { b'0' + d } else { b'a' - 10 + d }
 }
 
-// Bytes in hex: two digits for each.
-fn hex(out: &mut [u8], at: usize, bytes: &[u8]) -> usize
+// Bytes in hex over out from at on; the place behind them. By number and no cursor, and the digits by arithmetic and no table: so the
+// compiler does many bytes at a time, where a cursor that is moved by pairs takes three times the instructions for a page.
+fn put_hex(out: &mut [u8], at: usize, bytes: &[u8]) -> usize
     requires { at + 2 * length bytes.now ≤ length out.old }
-    ensures { Put at (hex_of bytes.now) out.old result out.new }
+    ensures put { Put at (hex_of bytes.now) out.old result out.new }
+    ensures ends { result ≡ at + 2 * length bytes.now }
 {
-    for i in 0..bytes.len() {
-        let b = bytes[i];
+    for (i, b) in bytes.iter().enumerate() {
         out[at + 2 * i] = digit(b / 16);
         out[at + 2 * i + 1] = digit(b % 16);
     }
     at + 2 * bytes.len()
 }
 
-// The last field and the newline.
-#[tactic(auto, using(crate::proofs::Puts::length_hex))]
-fn last(out: &mut [u8], at: usize, shown: &[u8]) -> usize
-    requires { at + 2 + 2 * length shown.now ≤ length out.old }
-    ensures put { Put at (last_field shown.now ++ (newline ∷ [])) out.old result out.new }
-    ensures within { result ≤ at + 2 + 2 * length shown.now }
-{
-    if shown.len() == 0 {
-        return pair(out, at, DASH, NEWLINE);
+// An output, and the place up to which it is written.
+#[derive(Drop)]
+struct Cursor<'a> {
+    out: &'a mut [u8],
+    at: usize,
+}
+
+impl Cursor<'_> {
+    // Two bytes.
+    fn pair(&mut self, first: u8, second: u8)
+        requires { Room 2 self.old }
+        ensures { Writes (first ∷ second ∷ []) 2 self.old self.new }
+    {
+        self.out[self.at] = first;
+        self.out[self.at + 1] = second;
+        self.at += 2;
     }
-    let end = hex(out, at, shown);
-    out[end] = NEWLINE;
-    end + 1
+
+    // A decimal number, and a space. Most are one digit.
+    fn number(&mut self, n: u64)
+        requires { Room 21 self.old }
+        ensures { Writes (field_then (decimal n) []) 21 self.old self.new }
+    {
+        if n < 10 {
+            self.pair(b'0' + n as u8, b' ');
+            return;
+        }
+        let mut text = [0u8; 20];
+        let count = io::decimal(n, &mut text);
+        core_bytes::put(self.out, self.at, &text[..count]);
+        self.out[self.at + count] = b' ';
+        self.at += count + 1;
+    }
+
+    // Bytes in hex: two digits for each.
+    fn hex(&mut self, bytes: &[u8])
+        requires { Room (2 * length bytes.now) self.old }
+        ensures { Writes (hex_of bytes.now) (2 * length bytes.now) self.old self.new }
+    {
+        self.at = put_hex(self.out, self.at, bytes);
+    }
+
+    // The last field and the newline.
+    fn last(&mut self, shown: &[u8])
+        requires { Room (2 + 2 * length shown.now) self.old }
+        ensures { Writes (last_field shown.now ++ (newline ∷ [])) (2 + 2 * length shown.now) self.old self.new }
+    {
+        if shown.is_empty() {
+            self.pair(b'-', b'\n');
+            return;
+        }
+        self.hex(shown);
+        self.out[self.at] = b'\n';
+        self.at += 1;
+    }
+
+    // An answer's four numbers, and a space behind each.
+    fn counts(&mut self, answer: Answer)
+        requires { Room 84 self.old }
+        ensures { Writes (counts_then answer []) 84 self.old self.new }
+    {
+        self.number(answer.number as u64);
+        self.number(answer.seals as u64);
+        self.number(answer.unveils as u64);
+        self.number(answer.used as u64);
+    }
 }
 
-// An answer's four numbers, and a space behind each.
-fn counts(out: &mut [u8], at: usize, answer: Answer) -> usize
-    requires { at + 84 ≤ length out.old }
-    ensures put { Put at (counts_then answer []) out.old result out.new }
-    ensures within { result ≤ at + 84 }
-{
-    let one = number(out, at, answer.number as u64);
-    let two = number(out, one, answer.seals as u64);
-    let three = number(out, two, answer.unveils as u64);
-    number(out, three, answer.used as u64)
-}
-
-// The line of an event: what it shows of its answer's bytes, or nothing.
+// The line of an event: what it shows of its answer's bytes, or nothing. This and `refused_line` are public, and their promise (`Put`) is
+// of bytes and places: so they take an output and a place, and make the cursor.
 pub fn event_line(
     out: &mut [u8],
     at: usize,
@@ -104,10 +114,12 @@ pub fn event_line(
     ensures put { Put at (line index (decimal kind) answer shown.now) out.old result out.new }
     ensures within { result ≤ at + 128 + 2 * length shown.now }
 {
-    let one = number(out, at, index as u64);
-    let two = number(out, one, kind as u64);
-    let three = counts(out, two, answer);
-    last(out, three, shown)
+    let mut cursor = Cursor { out, at };
+    cursor.number(index as u64);
+    cursor.number(kind as u64);
+    cursor.counts(answer);
+    cursor.last(shown);
+    cursor.at
 }
 
 // The line of a record or a header that is refused.
@@ -122,8 +134,10 @@ pub fn refused_line(out: &mut [u8], at: usize, index: usize, why: u8, used: u16)
         unveils: 0,
         used,
     };
-    let one = number(out, at, index as u64);
-    let two = pair(out, one, DASH, SPACE);
-    let three = counts(out, two, answer);
-    pair(out, three, DASH, NEWLINE)
+    let mut cursor = Cursor { out, at };
+    cursor.number(index as u64);
+    cursor.pair(b'-', b' ');
+    cursor.counts(answer);
+    cursor.pair(b'-', b'\n');
+    cursor.at
 }

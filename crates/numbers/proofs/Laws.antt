@@ -1,22 +1,19 @@
 -- What a turn of each loop does; and that the number of the first k bytes is left where those behind them are shifted out.
-use mathlib.Core.Path.{◌≡◌, ap, ap₂, ◌∙◌}
+use mathlib.Core.Path.{◌≡◌, refl, ap, ap₂, ◌∙◌}
 use mathlib.Core.List.{List, ◌∷◌, ◌++◌}
+use Rattle.std.specs.Int.{from_be_bytes, w64}
 use Prim.Native.Nat.{ℕ, suc, ◌+◌, ◌-◌, ◌*◌, ◌/◌, ◌%◌, ◌^◌, ◌≤◌, ◌<◌}
-use native.Mathlib.Nat.{lt_of_lt_of_le, pow-le-pow_right}
 use native.Mathlib.Numerals.{add-one}
 use native.Mathlib.Omega.{arith}
 use lib.Arith.{digits_div}
 use lib.Dec.{lit<}
 use lib.ListN.{length, get_or, set, take, drop, length-set, length-drop}
-use lib.Seq.{take-suc, take-add, length-take-le, drop-cons, drop-set-lt, get_or-set_same}
+use lib.Seq.{take-suc, take_all, take-add, length-take-le, drop-cons, drop-set-lt, get_or-set_same}
 use Rattle.rules.specs.Bytes.{Bytes, big_endian, number}
-use Rattle.rules.proofs.BigEndian.{bits_of_bytes, number_append, number_more, below_more, number_below, bytes_take, bytes_drop}
+use Rattle.rules.proofs.BigEndian.{bits_of_bytes, number_append, number_more, number_below, bytes_take, bytes_drop}
 use Rattle.rules.proofs.BigEndian.{quotient_more}
 
--- loading: n is the number of the first i bytes, and b is the next
-pub room : {n b : ℕ} (i : ℕ) → i < 8 → n < 256 ^ i → b < 256 → n * 256 + b < 2 ^ 64
-room i short h k = lt_of_lt_of_le (below_more i h k) (pow-le-pow_right {n = 256} (lit< tt) {i = suc i} {j = 8} short)
-
+-- loading: n is the number of the first i bytes
 pub load_turn : (bytes : List ℕ) (i n : ℕ) → i < length bytes → n ≡ number (take i bytes)
     → n * 256 + get_or bytes i 0 ≡ number (take (i + 1) bytes)
 load_turn bytes i n inside e = rw (add-one i, take-suc bytes i 0 inside, number_more, e)
@@ -34,21 +31,38 @@ load_front s k h long b =
     ap₂ (λ (x y : ℕ). number (take x s) / 2 ^ y) both bits
     ∙ rw (take-add k j s, number_append, size, bits_of_bytes j) (digits_div (number (take k s)) below)
 
--- storing: the last i of the k bytes are written, and rest is n without them
-pub rest_turn : (n i rest : ℕ) → rest ≡ n / 256 ^ i → rest / 256 ≡ n / 256 ^ (i + 1)
-rest_turn n i rest e = rw (add-one i, e) (quotient_more n i)
+-- loading eight at once
+pub eight_bytes : (s : List ℕ) → length s ≡ 8 → from_be_bytes w64 s ≡ number s
+unfolding number
+eight_bytes s long =
+    let turn : (i : ℕ) → i < 8 → number (take i s) * 256 + get_or s i 0 ≡ number (take (i + 1) s) =
+    λ i more. load_turn s i (number (take i s)) (omega arith) refl in
+    omega (
+      arith,
+      turn 0 (lit< tt),
+      turn 1 (lit< tt),
+      turn 2 (lit< tt),
+      turn 3 (lit< tt),
+      turn 4 (lit< tt),
+      turn 5 (lit< tt),
+      turn 6 (lit< tt),
+      turn 7 (lit< tt),
+      ap number (take_all 8 s (omega arith)),
+    )
 
+-- storing: the last i of the k bytes are written, and rest is n without them
 written : (l : List ℕ) (j v : ℕ) → j < length l → drop j (set l j v) ≡ v ∷ drop (suc j) l
 written l j v h =
     let fits : j < length (set l j v) = rw length-set h in
     rw (drop-cons (set l j v) j 0 fits, get_or-set_same l j v 0 h)
     (ap (λ (t : List ℕ). v ∷ t) (drop-set-lt (suc j) l j v (omega arith)))
 
-pub store_turn : (k n i rest : ℕ) (out old : List ℕ) → i < k → k ≤ length out → rest ≡ n / 256 ^ i
-    → drop (k - i) out ≡ big_endian i n ++ old
-    → drop (k - (i + 1)) (set out (k - 1 - i) (rest % 256)) ≡ big_endian (i + 1) n ++ old
+pub store_turn : (k n i rest : ℕ) (out old : List ℕ) → 0 < i → i ≤ k → k ≤ length out
+    → rest ≡ n / 256 ^ (k - i) → drop i out ≡ big_endian (k - i) n ++ old
+    → (rest / 256 ≡ n / 256 ^ (k - (i - 1)))
+    × (drop (i - 1) (set out (i - 1) (rest % 256)) ≡ big_endian (k - (i - 1)) n ++ old)
 unfolding big_endian
-store_turn k n i rest out old more fits er eo =
-    let next : k - (i + 1) ≡ k - 1 - i = omega arith in
-    let last : suc (k - 1 - i) ≡ k - i = omega arith in
-    rw (next, add-one i, written out (k - 1 - i) (rest % 256) (omega arith), last, eo, er)
+store_turn k n i rest out old some more fits er eo =
+    let next : k - (i - 1) ≡ suc (k - i) = omega arith in
+    let last : suc (i - 1) ≡ i = omega arith in
+    (rw (next, er) (quotient_more n (k - i)), rw (next, written out (i - 1) (rest % 256) (omega arith), last, eo, er))

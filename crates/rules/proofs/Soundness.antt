@@ -1,5 +1,6 @@
 -- Soundness, which specs/Sound.antt tests as a Bool, as a record of facts, and back; and what functions ask of sound tables, that their
 -- records agree.
+use Rattle.std.specs.Prelude.{Option, Some, None}
 use mathlib.Core.Path.{◌≡◌, ap₂, subst}
 use mathlib.Core.List.{List, [], ◌∷◌}
 use mathlib.Core.Bool.{Bool, true, ◌||◌, not}
@@ -25,12 +26,9 @@ use Rattle.rules.specs.declared.Asid.{Asid}
 use Rattle.rules.specs.declared.Gvpn.{Gvpn}
 use Rattle.rules.specs.declared.Gppn.{Gppn}
 use Rattle.rules.specs.declared.Ctc.{Ctc}
-use Rattle.rules.specs.declared.Mapping.TheVariants.{Mapped}
 use Rattle.rules.specs.declared.Wear.{Wear}
 use Rattle.rules.specs.declared.Wear.TheVariants.{Clean}
 use Rattle.rules.specs.declared.Place.TheVariants.{Clear, Sealed}
-use Rattle.rules.specs.declared.Named.{Named}
-use Rattle.rules.specs.declared.Named.TheVariants.{Nothing, Page}
 use Rattle.rules.proofs.PageNumbers.{same_domain, same_page_holds, number_domain, number_page, number_in}
 use Rattle.rules.proofs.Tests.{Each, each, all, all_at, all_of_holds, passed, second_or, implied}
 
@@ -46,11 +44,11 @@ pub shaped : (x : State) → T (whole x) → Shaped x
 unfolding whole
 shaped x w = let e = each _ w in omega (arith, eqb→eq)
 
-pub names_it : (d : Asid) (v : Gvpn) (n : Named) → T (names_page d v n) → n ≡ Page d v
-names_it d v Nothing t = absurd t
-names_it d v (Page e w) t =
+pub names_it : (d : Asid) (v : Gvpn) (n : Option (Asid × Gvpn)) → T (names_page d v n) → n ≡ Some (d, v)
+names_it d v None t = absurd t
+names_it d v (Some (e, w)) t =
     let r = each _ t in
-    ap₂ Page (same_domain e d (eqb→eq e.0 d.0 r.0)) (same_page_holds w v (eqb→eq w.0 v.0 r.1.0))
+    ap₂ (λ (a : Asid) (b : Gvpn). Some (a, b)) (same_domain e d (eqb→eq e.0 d.0 r.0)) (same_page_holds w v (eqb→eq w.0 v.0 r.1.0))
 
 pub record Sound (s : Setup) (x : State) : Type 0 where
   pub shape : Shaped x
@@ -212,7 +210,7 @@ module _ (s : Setup) (x : State) (some : 1 ≤ s.pages) (h : Sound s x) where
 
 -- sound records agree with each other
 module _ (s : Setup) (x : State) (h : Sound s x) where
-  clear_of : (f : Gppn) (d : Asid) (v : Gvpn) → T (names_sound s x.tables f (Page d v))
+  clear_of : (f : Gppn) (d : Asid) (v : Gvpn) → T (names_sound s x.tables f (Some (d, v)))
       → (d.0 < s.domains) × (v.0 < s.pages) × T (is_clear_in f (place_of s x.tables d v))
   unfolding names_sound domain_in page_in
   clear_of f d v n =
@@ -220,7 +218,7 @@ module _ (s : Setup) (x : State) (h : Sound s x) where
       (ltb→lt d.0 s.domains r.0, ltb→lt v.0 s.pages r.1.0, r.1.1.0)
 
   named_of : (d : Asid) (v : Gvpn) (f : Gppn) (w : Wear) → T (place_sound s x.tables d v (Clear f w))
-      → (f.0 < s.frames) × (names_of x.tables f ≡ Page d v) × T (wear_sound x.tables w)
+      → (f.0 < s.frames) × (names_of x.tables f ≡ Some (d, v)) × T (wear_sound x.tables w)
   unfolding place_sound frame_in
   named_of d v f w n =
       let r = each _ n in
@@ -234,7 +232,7 @@ module _ (s : Setup) (x : State) (h : Sound s x) where
   unfolding wear_sound
   worn_of k n = ltb→lt k x.tables.used n
 
-  mapped_of : (f : Gppn) → T (mapping_sound s (Mapped f)) → f.0 < s.frames
+  mapped_of : (f : Gppn) → T (mapping_sound s (Some f)) → f.0 < s.frames
   unfolding mapping_sound frame_in
   mapped_of f n = ltb→lt f.0 s.frames n
 

@@ -9,7 +9,9 @@ use native.Mathlib.Omega.{arith}
 use lib.ListN.{length, get_or}
 use lib.Dec.{T, eqb, ltb→lt}
 use borrow.Author.Tests.{eqb-true, eq-eqb}
+use Rattle.std.specs.Prelude.{Option, Some, None, is_some}
 use Rattle.rules.specs.Bytes.{all_of, all_from, same_bytes}
+use Rattle.rules.specs.Records.{is_unmapped}
 use Rattle.rules.specs.Sizes.{domain_in, page_in, frame_in, context_in}
 use Rattle.rules.specs.declared.Setup.{Setup}
 use Rattle.rules.specs.declared.Asid.{Asid}
@@ -145,3 +147,8 @@ cond_same false x = refl
 pub cond_map : {A B : Type 0} (f : A → B) (b : Bool) (x y : A) → f (cond b x y) ≡ cond b (f x) (f y)
 cond_map f true x y = refl
 cond_map f false x y = refl
+
+-- a page is mapped where its mapping names a frame
+pub some_mapped : (m : Option Gppn) → is_some m ≡ not (is_unmapped m)
+some_mapped None = refl
+some_mapped (Some f) = refl

@@ -2,27 +2,27 @@
 // What they mean is in specs/, which condenses document 01's core.
 #![tactic(auto)]
 
-ghost use Rattle.std.specs.Prelude.{◌≡◌, ◌<◌, not, [], ◌∷◌};
-ghost use Rattle.rules.specs.Bytes.{all_of};
+ghost use Rattle.std.specs.Prelude.{◌≡◌, ◌<◌};
 ghost use Rattle.rules.specs.Sizes.{between, setup_in_range};
 ghost use Rattle.rules.specs.Records.{fresh_state, is_empty, is_stopped, is_free, is_running, is_kept_in, domain_where};
-ghost use Rattle.rules.specs.Records.{is_unmapped, is_public, is_clear_in, frame_where};
+ghost use Rattle.rules.specs.Records.{is_public, is_clear_in};
 ghost use Rattle.rules.specs.Asked.{Limited, Numbered};
 ghost use Rattle.rules.specs.Sealing.{takes_at};
 ghost use Rattle.rules.specs.Events.{kind_of, data_length};
+ghost use Rattle.rules.specs.Refusals.{IsNumber};
 
 // Numbers, each of its own kind so that none is taken for another, under the sources' names.
 // A domain: address space identifier.
-#[derive(Clone, Copy)]
+#[derive(Clone, Copy, PartialEq, Eq)]
 pub struct Asid(pub u8);
 // A page of a domain: guest virtual page number.
-#[derive(Clone, Copy)]
+#[derive(Clone, Copy, PartialEq, Eq)]
 pub struct Gvpn(pub u8);
 // A frame: guest physical page number.
-#[derive(Clone, Copy)]
+#[derive(Clone, Copy, PartialEq, Eq)]
 pub struct Gppn(pub u8);
 // A context: cloaked thread context.
-#[derive(Clone, Copy)]
+#[derive(Clone, Copy, PartialEq, Eq)]
 pub struct Ctc(pub u8);
 
 // How large a run is: the page size P in bytes, then D, V (pages of each domain), T, F and N.
@@ -55,21 +55,18 @@ impl Setup {
     pub const MAX_SIGNATURES: usize = 65535;
 
     // Whether each size is within its limits.
+    #[tactic(auto, unfolding(crate::specs::Sizes::setup_in_range, crate::specs::Bytes::all_of))]
     pub fn in_range(self) -> bool
         ensures { result ≡ setup_in_range self }
     {
         let size = within(Setup::MIN_SIZE, Setup::MAX_SIZE, self.size);
         let unit = self.size % Setup::SIZE_UNIT == 0;
-        let domains = within(1, Setup::MAX_DOMAINS, self.domains);
-        let pages = within(1, Setup::MAX_PAGES, self.pages);
-        let contexts = within(1, Setup::MAX_CONTEXTS, self.contexts);
-        let frames = within(1, Setup::MAX_FRAMES, self.frames);
-        let signatures = self.signatures <= Setup::MAX_SIGNATURES;
-        let counts = both(
-            domains,
-            both(pages, both(contexts, both(frames, signatures))),
-        );
-        both(size, both(unit, counts))
+        size && unit
+            && within(1, Setup::MAX_DOMAINS, self.domains)
+            && within(1, Setup::MAX_PAGES, self.pages)
+            && within(1, Setup::MAX_CONTEXTS, self.contexts)
+            && within(1, Setup::MAX_FRAMES, self.frames)
+            && self.signatures <= Setup::MAX_SIGNATURES
     }
 
     // A page's number among all, by which the table has its record and the store its slot.
@@ -81,22 +78,14 @@ impl Setup {
     }
 }
 
-#[tactic(auto, unfolding(crate::specs::Sizes::between))]
+#[tactic(auto, unfolding(crate::specs::Sizes::between, crate::specs::Bytes::all_of))]
 fn within(low: usize, high: usize, n: usize) -> bool
     ensures { result ≡ between low high n }
 {
-    both(low <= n, n <= high)
+    low <= n && n <= high
 }
 
-// Both of two tests hold.
-#[tactic(auto, unfolding(crate::specs::Bytes::all_of))]
-pub fn both(a: bool, b: bool) -> bool
-    ensures { result ≡ all_of (a ∷ b ∷ []) }
-{
-    if a { b } else { false }
-}
-
-#[derive(Clone, Copy)]
+#[derive(Clone, Copy, PartialEq, Eq)]
 pub enum Life {
     Empty,
     Live,
@@ -107,26 +96,18 @@ impl Life {
     pub fn is_empty(self) -> bool
         ensures { result ≡ is_empty self }
     {
-        match self {
-            Life::Empty => true,
-            Life::Live => false,
-            Life::Stopped => false,
-        }
+        self == Life::Empty
     }
 
     pub fn is_stopped(self) -> bool
         ensures { result ≡ is_stopped self }
     {
-        match self {
-            Life::Empty => false,
-            Life::Live => false,
-            Life::Stopped => true,
-        }
+        self == Life::Stopped
     }
 }
 
 // Why a context was stopped; what of its registers the kernel is shown goes by it.
-#[derive(Clone, Copy)]
+#[derive(Clone, Copy, PartialEq, Eq)]
 pub enum TrapKind {
     Interrupt,
     Call,
@@ -144,32 +125,20 @@ impl Activity {
     pub fn is_free(self) -> bool
         ensures { result ≡ is_free self }
     {
-        match self {
-            Activity::Free => true,
-            Activity::Running(_) => false,
-            Activity::Kept(_, _) => false,
-        }
+        matches!(self, Activity::Free)
     }
 
     pub fn is_running(self) -> bool
         ensures { result ≡ is_running self }
     {
-        match self {
-            Activity::Free => false,
-            Activity::Running(_) => true,
-            Activity::Kept(_, _) => false,
-        }
+        matches!(self, Activity::Running(_))
     }
 
     // Kept, and in domain d.
     pub fn is_kept_in(self, d: Asid) -> bool
         ensures { result ≡ is_kept_in d self }
     {
-        match self {
-            Activity::Free => false,
-            Activity::Running(_) => false,
-            Activity::Kept(e, _) => e.0 == d.0,
-        }
+        matches!(self, Activity::Kept(e, _) if e == d)
     }
 
     // The domain that the context is in; 0 where it is in none.
@@ -184,34 +153,8 @@ impl Activity {
     }
 }
 
-#[derive(Clone, Copy)]
-pub enum Mapping {
-    Unmapped,
-    Mapped(Gppn),
-}
-
-impl Mapping {
-    pub fn is_mapped(self) -> bool
-        ensures { result ≡ not (is_unmapped self) }
-    {
-        match self {
-            Mapping::Unmapped => false,
-            Mapping::Mapped(_) => true,
-        }
-    }
-
-    // The frame that the page is mapped to; 0 where there is none.
-    pub fn frame(self) -> Gppn
-        ensures { result ≡ frame_where self }
-    {
-        match self {
-            Mapping::Unmapped => Gppn(0),
-            Mapping::Mapped(f) => f,
-        }
-    }
-}
-
-// Of a Clear page: whether it was written since it was last sealed, or else the signature that it was sealed with.
+// Of a Clear page: whether it was written since it was last sealed, or else the signature that it was sealed with. No Option of a
+// signature: dirty and clean are document 01's words, and None would not say dirty.
 #[derive(Clone, Copy)]
 pub enum Wear {
     Dirty,
@@ -229,22 +172,14 @@ impl Place {
     pub fn is_public(self) -> bool
         ensures { result ≡ is_public self }
     {
-        match self {
-            Place::Public => true,
-            Place::Clear(_, _) => false,
-            Place::Sealed(_) => false,
-        }
+        matches!(self, Place::Public)
     }
 
     // Clear, and in frame f.
     pub fn is_clear_in(self, f: Gppn) -> bool
         ensures { result ≡ is_clear_in f self }
     {
-        match self {
-            Place::Public => false,
-            Place::Clear(g, _) => g.0 == f.0,
-            Place::Sealed(_) => false,
-        }
+        matches!(self, Place::Clear(g, _) if g == f)
     }
 
     // The signatures that sealing a page here takes: one for a dirty page.
@@ -253,20 +188,10 @@ impl Place {
         ensures { result ≡ takes_at self }
     {
         match self {
-            Place::Public => 0,
-            Place::Clear(_, wear) => match wear {
-                Wear::Dirty => 1,
-                Wear::Clean(_) => 0,
-            },
-            Place::Sealed(_) => 0,
+            Place::Clear(_, Wear::Dirty) => 1,
+            Place::Clear(_, Wear::Clean(_)) | Place::Public | Place::Sealed(_) => 0,
         }
     }
-}
-
-#[derive(Clone, Copy)]
-pub enum Named {
-    Nothing,
-    Page(Asid, Gvpn),
 }
 
 #[derive(Clone, Copy)]
@@ -281,13 +206,15 @@ pub struct ContextRecord {
 
 #[derive(Clone, Copy)]
 pub struct PageRecord {
-    pub mapping: Mapping,
+    // The frame that the page is mapped to, or none.
+    pub mapping: Option<Gppn>,
     pub place: Place,
 }
 
 #[derive(Clone, Copy)]
 pub struct FrameRecord {
-    pub names: Named,
+    // The one page that is Clear in the frame, or none.
+    pub names: Option<(Asid, Gvpn)>,
 }
 
 #[derive(Clone, Copy)]
@@ -322,12 +249,10 @@ impl State {
             activity: Activity::Free,
         };
         let page = PageRecord {
-            mapping: Mapping::Unmapped,
+            mapping: None,
             place: Place::Public,
         };
-        let frame = FrameRecord {
-            names: Named::Nothing,
-        };
+        let frame = FrameRecord { names: None };
         let words = [0u64; 8];
         let registers = Registers { words };
         let domains = [domain; Setup::MAX_DOMAINS];
@@ -376,7 +301,7 @@ impl Event {
     // How many kinds there are.
     pub const KINDS: u8 = 14;
 
-    // The event's kind, 0 to 13.
+    // The event's kind, 0 to 13: the number that a trace has for it (`kind_of`).
     pub fn kind(self) -> u8
         ensures { result ≡ kind_of self }
     {
@@ -403,26 +328,41 @@ impl Event {
         ensures { result ≡ data_length self }
     {
         match self {
-            Event::Begin(_, _) => 0,
-            Event::End(_) => 0,
-            Event::Map(_, _, _) => 0,
-            Event::Unmap(_, _) => 0,
-            Event::KernelRead(_, _) => 0,
-            Event::KernelWrite(_, span) => span.len,
+            Event::KernelWrite(_, span) | Event::Write(_, _, span) => span.len,
             Event::Resume(_, _) => 8,
-            Event::Spawn(_, _) => 0,
-            Event::Leave(_) => 0,
-            Event::Cloak(_, _) => 0,
-            Event::Uncloak(_, _) => 0,
-            Event::Read(_, _, _) => 0,
-            Event::Write(_, _, span) => span.len,
             Event::Trap(_, _, _) => 64,
+            _ => 0,
         }
     }
 }
 
+// Why the core, the reader or the writer refuses, under document 01's numbers.
+#[derive(Clone, Copy, PartialEq, Eq)]
+pub enum Refusal {
+    NoEvent = 1,
+    OutOfRange = 2,
+    BadLength = 3,
+    WrongCondition = 4,
+    NotMapped = 5,
+    NoSignature = 6,
+    Stopped = 7,
+    NotUnveiled = 8,
+    CutShort = 9,
+    NotAcceptable = 10,
+    NoRoom = 11,
+}
+
+impl From<Refusal> for u8 {
+    ghost from_gives = { IsNumber };
+
+    fn from(refusal: Refusal) -> u8 {
+        refusal as u8
+    }
+}
+
 // What is told of an event, beside the answer's bytes: its number, the seals and unveils it made, and the
-// signatures used since the fresh start.
+// signatures used since the fresh start. A number and no Result, since an answer 8 has counts too, and since the theorems of
+// theorem_code (`code_never_10`, `code_answers`), `answer_of` and the listing speak of document 01's number.
 #[derive(Clone, Copy)]
 pub struct Answer {
     pub number: u8,
@@ -432,27 +372,6 @@ pub struct Answer {
 }
 
 impl Answer {
+    // The number of an event that was done; a refusal's is its `Refusal`'s.
     pub const DONE: u8 = 0;
-
-    pub const NO_EVENT: u8 = 1;
-
-    pub const OUT_OF_RANGE: u8 = 2;
-
-    pub const BAD_LENGTH: u8 = 3;
-
-    pub const WRONG_CONDITION: u8 = 4;
-
-    pub const NOT_MAPPED: u8 = 5;
-
-    pub const NO_SIGNATURE: u8 = 6;
-
-    pub const STOPPED: u8 = 7;
-
-    pub const NOT_UNVEILED: u8 = 8;
-
-    pub const CUT_SHORT: u8 = 9;
-
-    pub const NOT_ACCEPTABLE: u8 = 10;
-
-    pub const NO_ROOM: u8 = 11;
 }

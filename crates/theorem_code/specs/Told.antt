@@ -1,6 +1,6 @@
 -- What a run of the code tells: the bytes of an answer, what the kernel is told, when two runs differ only in what is the
 -- application's alone, and a run's past. The words are those of `theorem_secrecy` and `theorem_freshness`, said of what the calls left.
-use Rattle.std.specs.Prelude.{◌≡◌, ℕ, ◌<◌, cond, List, [], ◌∷◌, take, ◌==◌}
+use Rattle.std.specs.Prelude.{◌≡◌, ℕ, ◌<◌, cond, List, [], ◌∷◌, take, ◌==◌, None}
 use Rattle.rules.specs.Records.{Given, life_of, names_of, frame_bytes}
 use Rattle.rules.specs.Events.{answer_length}
 use Rattle.rules.specs.Runs.{Ask}
@@ -11,7 +11,6 @@ use Rattle.rules.specs.declared.Asid.{Asid}
 use Rattle.rules.specs.declared.Gppn.{Gppn}
 use Rattle.rules.specs.declared.Span.{Span}
 use Rattle.rules.specs.declared.Life.TheVariants.{Stopped}
-use Rattle.rules.specs.declared.Named.TheVariants.{Nothing}
 use Rattle.rules.specs.declared.Event.{Event}
 use Rattle.rules.specs.declared.Event.TheVariants.{KernelRead}
 use Rattle.rules.specs.declared.Answer.{Answer}
@@ -57,7 +56,7 @@ DifferOnlyInSecrets s p (l ∷ lefts) (a ∷ asks) (b ∷ others) =
 -- page; and what a kernel read, made by a further call of either, would answer and leave in the answer buffer, of any span of any frame.
 pub record SameToKernel (g : Given) (p q : Left) : Type 0 where
   pub tables : p.tables ≡ q.tables
-  pub frames : (f : Gppn) → f.0 < g.setup.frames → names_of (tables_left g.setup p) f ≡ Nothing
+  pub frames : (f : Gppn) → f.0 < g.setup.frames → names_of (tables_left g.setup p) f ≡ None
       → frame_bytes g.setup f (held g.setup p) ≡ frame_bytes g.setup f (held g.setup q)
   pub looks : (f : Gppn) (x : Span) (buffer : List ℕ) (l k : Left)
       → MayStep g p (asking (KernelRead f x) [] buffer) l

@@ -1,5 +1,6 @@
 -- Bringing a page in at the frame to which it is mapped, and storing bytes there. Bringing in does nothing, or unveils the page, or stops
 -- its domain; each time the machine stays acceptable.
+use Rattle.std.specs.Prelude.{None}
 use mathlib.Core.Path.{◌≡◌, refl, sym, ap, ◌∙◌}
 use mathlib.Core.Logic.{◌≢◌}
 use mathlib.Core.List.{List, []}
@@ -26,7 +27,6 @@ use Rattle.rules.specs.declared.Wear.{Wear}
 use Rattle.rules.specs.declared.Wear.TheVariants.{Dirty, Clean}
 use Rattle.rules.specs.declared.Place.{Place}
 use Rattle.rules.specs.declared.Place.TheVariants.{Public, Clear, Sealed}
-use Rattle.rules.specs.declared.Named.TheVariants.{Nothing}
 use Rattle.rules.proofs.Tests.{same_bytes_holds, bytes_same, all}
 use Rattle.rules.proofs.Parts.{length_overlay}
 use Rattle.rules.proofs.Changes.{place_same}
@@ -44,7 +44,7 @@ module _ (g : Given) (n : Machine) (accepted : Accepted g n) (f : Gppn) (hf : f.
   s = g.setup
 
   -- a Sealed page can be made Clear in a frame that names none, with its slot's bytes
-  pub sealed_enters : (k : ℕ) → place_of s n.tables d v ≡ Sealed k → names_of n.tables f ≡ Nothing
+  pub sealed_enters : (k : ℕ) → place_of s n.tables d v ≡ Sealed k → names_of n.tables f ≡ None
       → Enters g n f d v (Clean k) (slot_bytes s d v n)
   unfolding wear_sound
   sealed_enters k place none =
@@ -59,12 +59,12 @@ module _ (g : Given) (n : Machine) (accepted : Accepted g n) (f : Gppn) (hf : f.
         whole = slot_whole s d v n hd accepted.looks.store;
       }
 
-  pub unveiled_accepted : (k : ℕ) → place_of s n.tables d v ≡ Sealed k → names_of n.tables f ≡ Nothing
+  pub unveiled_accepted : (k : ℕ) → place_of s n.tables d v ≡ Sealed k → names_of n.tables f ≡ None
       → Accepted g (unveiled g f d v k n)
   unfolding unveiled unveiled_tables
   unveiled_accepted k place none = enter_accepted g n f d v (Clean k) (slot_bytes s d v n) (sealed_enters k place none) (n.unveils + 1)
 
-  pub opened_holds : (k : ℕ) → place_of s n.tables d v ≡ Sealed k → names_of n.tables f ≡ Nothing
+  pub opened_holds : (k : ℕ) → place_of s n.tables d v ≡ Sealed k → names_of n.tables f ≡ None
       → Holds s (unveiled g f d v k n).tables f d v (Clean k)
   unfolding unveiled unveiled_tables
   opened_holds k place none = enter_holds g n f d v (Clean k) (slot_bytes s d v n) (sealed_enters k place none) (n.unveils + 1)
@@ -79,11 +79,11 @@ module _ (g : Given) (n : Machine) (accepted : Accepted g n) (f : Gppn) (hf : f.
 
   -- bringing in leaves all as it is, or unveils, or stops the domain
   pub bring_in_either : TouchCase s n.tables f d v → (P : Effect → Type 0)
-      → (place_of s n.tables d v ≡ Public → names_of n.tables f ≡ Nothing → P (done n []))
+      → (place_of s n.tables d v ≡ Public → names_of n.tables f ≡ None → P (done n []))
       → ((w : Wear) → Holds s n.tables f d v w → P (done n []))
-      → ((k : ℕ) → place_of s n.tables d v ≡ Sealed k → names_of n.tables f ≡ Nothing → frame_bytes s f n ≡ signature g k
+      → ((k : ℕ) → place_of s n.tables d v ≡ Sealed k → names_of n.tables f ≡ None → frame_bytes s f n ≡ signature g k
       → P (done (unveiled g f d v k n) []))
-      → ((k : ℕ) → place_of s n.tables d v ≡ Sealed k → names_of n.tables f ≡ Nothing → frame_bytes s f n ≢ signature g k
+      → ((k : ℕ) → place_of s n.tables d v ≡ Sealed k → names_of n.tables f ≡ None → frame_bytes s f n ≢ signature g k
       → P (failed (on_tables (with_life d Stopped) n))) → P (bring_in g f d v n)
   unfolding bring_in bring_in_at
   bring_in_either (public p none) P a b c e = rw p (a p none)
@@ -156,7 +156,7 @@ module _ (g : Given) (n : Machine) (accepted : Accepted g n) (f : Gppn) (hf : f.
   unfolding store_span
   span_frames h ne = unfilled g.setup f hf n accepted.looks.frames (overlay x.off new (frame_bytes g.setup f n)) laid_whole h ne
 
-  pub span_stays : names_of n.tables f ≡ Nothing → (e : Asid) (y : Gvpn) → Within g.setup e y
+  pub span_stays : names_of n.tables f ≡ None → (e : Asid) (y : Gvpn) → Within g.setup e y
       → Stays g.setup e y n (store_span g.setup f x new n)
   unfolding store_span
   span_stays none e y he =

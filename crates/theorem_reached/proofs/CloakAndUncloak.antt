@@ -1,6 +1,7 @@
 -- Cloaking a page at a frame that names none, and uncloaking one: the machine stays acceptable, the page is zero or Public afterwards, and
 -- every other page stays as it is.
-use mathlib.Core.Path.{◌≡◌, refl, sym}
+use Rattle.std.specs.Prelude.{None}
+use mathlib.Core.Path.{◌≡◌, refl, sym, ap}
 use mathlib.Core.Logic.{◌≢◌}
 use mathlib.Core.Bool.{Bool, true, false, not, cond, true≢false}
 use Prim.Native.Nat.{◌<◌}
@@ -20,7 +21,6 @@ use Rattle.rules.specs.declared.Gppn.{Gppn}
 use Rattle.rules.specs.declared.Wear.TheVariants.{Dirty}
 use Rattle.rules.specs.declared.Place.{Place}
 use Rattle.rules.specs.declared.Place.TheVariants.{Public, Clear, Sealed}
-use Rattle.rules.specs.declared.Named.TheVariants.{Nothing}
 use Rattle.rules.proofs.Parts.{length_zeros, length_with_part, part_other, part_fits}
 use Rattle.rules.proofs.PageNumbers.{number_one}
 use Rattle.rules.proofs.Changes.{place_same}
@@ -45,7 +45,7 @@ module _ (g : Given) (m : Machine) (accepted : Accepted g m) where
   s = g.setup
 
   -- cloak, at a frame that names none
-  module _ (f : Gppn) (hf : f.0 < s.frames) (none : names_of m.tables f ≡ Nothing) (d : Asid) (v : Gvpn) (hd : Within s d v)
+  module _ (f : Gppn) (hf : f.0 < s.frames) (none : names_of m.tables f ≡ None) (d : Asid) (v : Gvpn) (hd : Within s d v)
       (lives : T (not (is_empty (life_of m.tables d)))) (shared : place_of s m.tables d v ≡ Public) where
     pub cloak_enters : Enters g m f d v Dirty (zeros s.size)
     unfolding wear_sound
@@ -100,10 +100,9 @@ module _ (g : Given) (m : Machine) (accepted : Accepted g m) where
         (moved_sound g m accepted d v hd f n.0 lives (λ h c. clear_in f h w _ e c)
         (λ x y r.
         let names = n.1 in
-        let px : x ≡ d = cc in
-        let py : y ≡ v = cc in
-        rw (px, py))
-        m.tables.used (omega arith) accepted.looks.sound.used Public Nothing tt tt)
+        let one : ◌≡◌ {A = Asid × Gvpn} (x, y) (d, v) = cc in
+        ap (λ (p : Asid × Gvpn). page_number s p.0 p.1) one)
+        m.tables.used (omega arith) accepted.looks.sound.used Public None tt tt)
     uncloak_accepted_at (Sealed k) e q =
         accepted_kept g m (uncloaked_at s d v (Sealed k) m) accepted refl
         (length_with_part s.size (page_number s d v) (zeros s.size) m.store)

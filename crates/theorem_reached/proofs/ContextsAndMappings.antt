@@ -1,5 +1,6 @@
 -- Changes of a domain's life, a context's activity and registers, and a page's mapping: the machine stays acceptable, and every page's
 -- bytes stay as they are.
+use Rattle.std.specs.Prelude.{Option}
 use mathlib.Core.Path.{◌≡◌, refl}
 use mathlib.Core.List.{List}
 use mathlib.Core.Bool.{not}
@@ -11,6 +12,7 @@ use Rattle.rules.specs.Sizes.{page_number, domain_in}
 use Rattle.rules.specs.Records.{Given, Machine, state_of, life_of, place_of, is_empty, with_life, with_activity, with_mapping, on_tables}
 use Rattle.rules.specs.Sound.{begun, activity_sound, mapping_sound}
 use Rattle.rules.specs.Events.{turned}
+use Rattle.rules.specs.declared.Gppn.{Gppn}
 use Rattle.rules.specs.declared.Setup.{Setup}
 use Rattle.rules.specs.declared.Asid.{Asid}
 use Rattle.rules.specs.declared.Gvpn.{Gvpn}
@@ -18,7 +20,6 @@ use Rattle.rules.specs.declared.Ctc.{Ctc}
 use Rattle.rules.specs.declared.Life.TheVariants.{Live}
 use Rattle.rules.specs.declared.Activity.{Activity}
 use Rattle.rules.specs.declared.Activity.TheVariants.{Running}
-use Rattle.rules.specs.declared.Mapping.{Mapping}
 use Rattle.rules.proofs.PageNumbers.{number_one}
 use Rattle.rules.proofs.Changes.{life_same, place_kept}
 use Rattle.rules.proofs.Tests.{all}
@@ -63,13 +64,13 @@ module _ (g : Given) (m : Machine) (accepted : Accepted g m) where
       (all _ (lt→ltb _ _ hd, (rw now tt, tt))))
 
   -- a page's mapping
-  pub mapping_accepted : (d : Asid) (v : Gvpn) → Within s d v → (y : Mapping) → T (mapping_sound s y)
+  pub mapping_accepted : (d : Asid) (v : Gvpn) → Within s d v → (y : Option Gppn) → T (mapping_sound s y)
       → T (not (is_empty (life_of m.tables d))) → Accepted g (on_tables (with_mapping s d v y) m)
   mapping_accepted d v hd y ok lives =
       accepted_kept g m (on_tables (with_mapping s d v y) m) accepted refl refl
       (mapping_sound_holds g m accepted d v hd y ok lives)
 
-  pub mapping_stays : (d : Asid) (v : Gvpn) → Within s d v → (y : Mapping) (e : Asid) (w : Gvpn) → Within s e w
+  pub mapping_stays : (d : Asid) (v : Gvpn) → Within s d v → (y : Option Gppn) (e : Asid) (w : Gvpn) → Within s e w
       → Stays s e w m (on_tables (with_mapping s d v y) m)
   mapping_stays d v hd y e w he =
       record { place = at (ℕ_discrete (page_number s e w) (page_number s d v)); frame = λ f z c. refl; slot = refl; used = omega arith }

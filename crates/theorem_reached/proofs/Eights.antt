@@ -1,4 +1,5 @@
 -- Saved registers are eight words of each context: at the start, and after every event.
+use Rattle.std.specs.Prelude.{Option, Some, None}
 use mathlib.Core.Path.{◌≡◌, refl, ap, ◌∙◌}
 use mathlib.Core.List.{List, [], ◌∷◌}
 use mathlib.Core.Bool.{Bool, true, false, cond}
@@ -24,8 +25,6 @@ use Rattle.rules.specs.declared.Registers.{Registers}
 use Rattle.rules.specs.declared.Life.TheVariants.{Stopped}
 use Rattle.rules.specs.declared.Place.{Place}
 use Rattle.rules.specs.declared.Place.TheVariants.{Public, Clear, Sealed}
-use Rattle.rules.specs.declared.Named.{Named}
-use Rattle.rules.specs.declared.Named.TheVariants.{Nothing, Page}
 use Rattle.rules.specs.declared.Event.{Event}
 use Rattle.rules.specs.declared.Event.TheVariants.{Begin, End, Map, Unmap, KernelRead, KernelWrite, Resume, Spawn, Leave, Cloak}
 use Rattle.rules.specs.declared.Event.TheVariants.{Uncloak, Read, Write, Trap}
@@ -61,10 +60,10 @@ module _ (g : Given) where
   seal_at_holds f d v (Clear h w) m = refl
   seal_at_holds f d v (Sealed k) m = refl
 
-  seal_named_holds : (f : Gppn) (n : Named) (m : Machine) → (seal_named g f n m).saved ≡ m.saved
+  seal_named_holds : (f : Gppn) (n : Option (Asid × Gvpn)) (m : Machine) → (seal_named g f n m).saved ≡ m.saved
   unfolding seal_named
-  seal_named_holds f Nothing m = refl
-  seal_named_holds f (Page d v) m = seal_at_holds f d v (place_of g.setup m.tables d v) m
+  seal_named_holds f None m = refl
+  seal_named_holds f (Some (d, v)) m = seal_at_holds f d v (place_of g.setup m.tables d v) m
 
   seal_all_holds : (fs : List Gppn) (m : Machine) → (seal_all g fs m).saved ≡ m.saved
   unfolding seal_all seal

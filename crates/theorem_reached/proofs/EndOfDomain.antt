@@ -1,4 +1,5 @@
 -- The end of a domain: what then stands in each table, in each frame and in each slot, and that the machine stays acceptable.
+use Rattle.std.specs.Prelude.{Option, Some, None}
 use mathlib.Core.Path.{◌≡◌, refl, sym, ap, ◌∙◌}
 use mathlib.Core.Logic.{◌≢◌}
 use mathlib.Core.Bool.{Bool, true, false, not, cond, true≢false}
@@ -30,8 +31,6 @@ use Rattle.rules.specs.declared.Registers.{Registers}
 use Rattle.rules.specs.declared.Activity.{Activity}
 use Rattle.rules.specs.declared.Activity.TheVariants.{Free, Running, Kept}
 use Rattle.rules.specs.declared.Place.TheVariants.{Public}
-use Rattle.rules.specs.declared.Named.{Named}
-use Rattle.rules.specs.declared.Named.TheVariants.{Nothing, Page}
 use Rattle.rules.proofs.Tests.{cond_map, cond_same, each, all}
 use Rattle.rules.proofs.Parts.{length_zeros, length_with_part, part_outside}
 use Rattle.rules.proofs.Lists.{get_d_map_from, length_map_from, get_d_sets_in, get_d_sets_before, get_d_sets_past}
@@ -55,7 +54,7 @@ ended_activity s d t c =
     ∙ cond_map (λ (r : ContextRecord). r.activity) (is_in d (activity_of t c)) free_context _
 
 pub ended_names : (s : Setup) (d : Asid) (t : Tables) (f : Gppn)
-    → names_of (ended_tables s d t) f ≡ cond (names_in d (names_of t f)) Nothing (names_of t f)
+    → names_of (ended_tables s d t) f ≡ cond (names_in d (names_of t f)) None (names_of t f)
 unfolding ended_tables
 ended_names s d t f =
     ap (λ r. r.names) (get_or-map (λ r. cond (names_in d r.names) open_frame r) t.frames f.0 open_frame)
@@ -116,9 +115,9 @@ module _ (g : Given) (m : Machine) (accepted : Accepted g m) (d : Asid) (hd : d.
       go (no h) =
           absurd (none (names_of m.tables (record { 0 = i })) (accepted.looks.sound.frame_past (record { 0 = i }) (omega arith)) t)
         where
-          none : (n : Named) → T (names_none n) → T (names_in d n) → ⊥
-          none Nothing a b = b
-          none (Page e v) a b = a
+          none : (n : Option (Asid × Gvpn)) → T (names_none n) → T (names_in d n) → ⊥
+          none None a b = b
+          none (Some (e, v)) a b = a
 
   -- the frames that name no page of the domain stay
   pub ended_frame : (f : Gppn) → names_in d (names_of m.tables f) ≡ false → frame_bytes s f (ended s d m) ≡ frame_bytes s f m
@@ -131,7 +130,7 @@ module _ (g : Given) (m : Machine) (accepted : Accepted g m) (d : Asid) (hd : d.
       part_outside s.size s.pages d.0 e.0 w.0 s.domains (zeros (s.pages * s.size)) m.store (length_zeros _)
       accepted.looks.store hd hw ne
 
-  not_in : (n : Named) (e : Asid) (w : Gvpn) → e.0 ≢ d.0 → n ≡ Page e w → names_in d n ≡ false
+  not_in : (n : Option (Asid × Gvpn)) (e : Asid) (w : Gvpn) → e.0 ≢ d.0 → n ≡ Some (e, w) → names_in d n ≡ false
   not_in n e w ne q = rw q (ne_eqb e.0 d.0 ne)
 
   ended_used : m.tables.used ≤ (ended s d m).tables.used
@@ -182,8 +181,8 @@ module _ (g : Given) (m : Machine) (accepted : Accepted g m) (d : Asid) (hd : d.
       (λ f y c n. ended_names s d m.tables f ∙ rw (not_in (names_of m.tables f) e w ne n) n)
       (accepted.looks.sound.page e w he.domain he.page))
 
-  frame_sound_holds : (f : Gppn) (n : Named) (b : Bool) → names_in d n ≡ b → T (names_sound s m.tables f n)
-      → T (names_sound s u f (cond b Nothing n))
+  frame_sound_holds : (f : Gppn) (n : Option (Asid × Gvpn)) (b : Bool) → names_in d n ≡ b → T (names_sound s m.tables f n)
+      → T (names_sound s u f (cond b None n))
   unfolding names_sound
   frame_sound_holds f n true q t = tt
   frame_sound_holds f n false q t =
@@ -194,7 +193,7 @@ module _ (g : Given) (m : Machine) (accepted : Accepted g m) (d : Asid) (hd : d.
       rw (ap (λ (r : PageRecord). r.place) (ended_other s d m.tables hd long e w apart inside.1)) c)
       t
 
-  frame_none : (n : Named) (b : Bool) → T (names_none n) → T (names_none (cond b Nothing n))
+  frame_none : (n : Option (Asid × Gvpn)) (b : Bool) → T (names_none n) → T (names_none (cond b None n))
   frame_none n true t = tt
   frame_none n false t = t
 

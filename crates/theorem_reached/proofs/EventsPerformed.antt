@@ -1,5 +1,6 @@
 -- Each of the fourteen events, where no check refuses it: the machine stays acceptable, and each page's bytes are as the event's act on the
 -- page says.
+use Rattle.std.specs.Prelude.{Some, None}
 use mathlib.Core.Path.{◌≡◌, refl}
 use mathlib.Core.List.{List, [], ◌∷◌}
 use mathlib.Core.Bool.{Bool, true, false, not, cond}
@@ -28,7 +29,6 @@ use Rattle.rules.specs.declared.Span.{Span}
 use Rattle.rules.specs.declared.TrapKind.{TrapKind}
 use Rattle.rules.specs.declared.Activity.{Activity}
 use Rattle.rules.specs.declared.Activity.TheVariants.{Free, Running, Kept}
-use Rattle.rules.specs.declared.Mapping.TheVariants.{Unmapped, Mapped}
 use Rattle.rules.specs.declared.Event.{Event}
 use Rattle.rules.specs.declared.Event.TheVariants.{Begin, End, Map, Unmap, KernelRead, KernelWrite, Resume, Spawn, Leave, Cloak, Uncloak}
 use Rattle.rules.specs.declared.Event.TheVariants.{Read, Write, Trap}
@@ -105,16 +105,16 @@ module _ (g : Given) (m : Machine) (new : List ℕ) (space : ℕ) where
   mapped d v f p =
       let n = each _ p.granted.numbers in
       let hd : Within s d v = record { domain = domain_below s d n.0; page = page_below s v n.1.0 } in
-      did_kept g m _ (λ e w. refl) _ [] (mapping_accepted g m p.accepted d v hd (Mapped f) n.1.1.0 p.granted.condition)
-      (λ e w he. is_same (mapping_stays g m p.accepted d v hd (Mapped f) e w he))
+      did_kept g m _ (λ e w. refl) _ [] (mapping_accepted g m p.accepted d v hd (Some f) n.1.1.0 p.granted.condition)
+      (λ e w he. is_same (mapping_stays g m p.accepted d v hd (Some f) e w he))
 
   unmapped : (d : Asid) (v : Gvpn) → Performs (Unmap d v)
   unfolding perform row on_records seal_all does act_of numbers_in mapping_sound
   unmapped d v p =
       let n = each _ p.granted.numbers in
       let hd : Within s d v = record { domain = domain_below s d n.0; page = page_below s v n.1.0 } in
-      did_kept g m _ (λ e w. refl) _ [] (mapping_accepted g m p.accepted d v hd Unmapped tt p.granted.condition)
-      (λ e w he. is_same (mapping_stays g m p.accepted d v hd Unmapped e w he))
+      did_kept g m _ (λ e w. refl) _ [] (mapping_accepted g m p.accepted d v hd None tt p.granted.condition)
+      (λ e w he. is_same (mapping_stays g m p.accepted d v hd None e w he))
 
   kernel_read_holds : (f : Gppn) (x : Span) → Performs (KernelRead f x)
   unfolding perform row on_frame does act_of numbers_in

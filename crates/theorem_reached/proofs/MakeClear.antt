@@ -1,6 +1,7 @@
 -- Making a page Clear in a frame that names none, which unveiling and cloaking do, and filling a frame: what then stands in the page's
 -- record and frame and in all others, and that the machine stays acceptable.
-use mathlib.Core.Path.{◌≡◌, refl}
+use Rattle.std.specs.Prelude.{Some, None}
+use mathlib.Core.Path.{◌≡◌, refl, sym, ◌∙◌}
 use mathlib.Core.Logic.{◌≢◌}
 use mathlib.Core.List.{List}
 use mathlib.Core.Bool.{not}
@@ -10,6 +11,7 @@ use lib.ListN.{length}
 use lib.Dec.{T, eqb_refl, lt→ltb}
 use Rattle.rules.specs.Bytes.{with_part}
 use Rattle.rules.specs.Sizes.{page_number, domain_in, page_in, frame_in}
+use Rattle.std.proofs.lemmas.Option.{none-some}
 use Rattle.rules.specs.Records.{Given, Machine, life_of, place_of, names_of, is_clear_in, is_empty, with_names, with_place, frame_bytes}
 use Rattle.rules.specs.Records.{fill_frame}
 use Rattle.rules.specs.Sound.{wear_sound, place_sound, names_sound}
@@ -22,8 +24,6 @@ use Rattle.rules.specs.declared.Gppn.{Gppn}
 use Rattle.rules.specs.declared.Wear.{Wear}
 use Rattle.rules.specs.declared.Wear.TheVariants.{Dirty, Clean}
 use Rattle.rules.specs.declared.Place.TheVariants.{Clear}
-use Rattle.rules.specs.declared.Named.{Named}
-use Rattle.rules.specs.declared.Named.TheVariants.{Nothing, Page}
 use Rattle.rules.proofs.Parts.{length_with_part, part_fits, part_same, part_other}
 use Rattle.rules.proofs.Changes.{place_same, names_same, names_other}
 use Rattle.rules.proofs.Tests.{all}
@@ -34,14 +34,11 @@ use Rattle.theorem_reached.proofs.SoundPages.{number_long, moved_sound, place_ot
 use Rattle.theorem_reached.proofs.FramesAndSlots.{Within}
 use Rattle.theorem_reached.proofs.SealPage.{Holds, Stays}
 
-pub nothing_page : {d : Asid} {v : Gvpn} {n : Named} → n ≡ Nothing → n ≡ Page d v → ⊥
-nothing_page p q = let z : ◌≡◌ {A = ℕ} 0 1 = cc in omega arith
-
 -- no page is Clear in a frame that names none
-pub none_clear : (s : Setup) (t : Tables) → Agreed s t → (f : Gppn) → names_of t f ≡ Nothing → (d : Asid) (v : Gvpn) → Within s d v
+pub none_clear : (s : Setup) (t : Tables) → Agreed s t → (f : Gppn) → names_of t f ≡ None → (d : Asid) (v : Gvpn) → Within s d v
     → (h : Gppn) (w : Wear) → place_of s t d v ≡ Clear h w → h.0 ≢ f.0
 none_clear s t agrees f none d v hd h w c q =
-    nothing_page none (rw (same_frame h f q) at (agrees.named d v h w hd.domain hd.page c).1)
+    none-some (d, v) (sym none ∙ (rw (same_frame h f q) at (agrees.named d v h w hd.domain hd.page c).1))
 
 -- a frame filled
 module _ (s : Setup) (f : Gppn) (hf : f.0 < s.frames) (m : Machine) (long : length m.frames ≡ s.frames * s.size) (new : List ℕ)
@@ -61,7 +58,7 @@ fill_accepted g f new m accepted =
 abbrev pub entered : Setup → Gppn → Asid → Gvpn → Wear → List ℕ → ℕ → Machine → Machine
 entered s f d v w new unveils m =
     record {
-      tables = with_names f (Page d v) (with_place s d v (Clear f w) m.tables);
+      tables = with_names f (Some (d, v)) (with_place s d v (Clear f w) m.tables);
       saved = m.saved;
       frames = with_part s.size f.0 new m.frames;
       store = m.store;
@@ -75,7 +72,7 @@ pub record Enters (g : Given) (m : Machine) (f : Gppn) (d : Asid) (v : Gvpn) (w 
   pub frame : f.0 < g.setup.frames
   pub within : Within g.setup d v
   pub lives : T (not (is_empty (life_of m.tables d)))
-  pub none : names_of m.tables f ≡ Nothing
+  pub none : names_of m.tables f ≡ None
   pub away : (k : Gppn) → T (is_clear_in k (place_of g.setup m.tables d v)) → ⊥
   pub worn : T (wear_sound m.tables w)
   pub whole : length new ≡ g.setup.size
@@ -93,7 +90,7 @@ module _ (g : Given) (m : Machine) (f : Gppn) (d : Asid) (v : Gvpn) (w : Wear) (
         frame = h.frame;
         within = h.within;
         names =
-            names_same m.tables f (Page d v)
+            names_same m.tables f (Some (d, v))
             (omega (arith, h.frame, h.accepted.looks.shapes.frames, h.accepted.looks.sizes.frames));
         place = place_same s m.tables d v (number_long g m h.accepted d v h.within) (Clear f w);
       }
@@ -110,7 +107,7 @@ module _ (g : Given) (m : Machine) (f : Gppn) (d : Asid) (v : Gvpn) (w : Wear) (
       let a = h.accepted in
       accepted_kept g m n a (length_with_part s.size f.0 new m.frames) refl
       (moved_sound g m a d v h.within f h.frame h.lives (λ k c. absurd (h.away k c))
-      (λ e y q. absurd (nothing_page h.none q)) m.tables.used (omega arith) a.looks.sound.used (Clear f w) (Page d v)
+      (λ e y q. absurd (none-some (e, y) (sym h.none ∙ q))) m.tables.used (omega arith) a.looks.sound.used (Clear f w) (Some (d, v))
       (all _ (lt→ltb _ _ h.frame, (rw now.names (names_self d v), (worn_still w h.worn, tt))))
       (all _ (lt→ltb _ _ h.within.domain, (lt→ltb _ _ h.within.page, (rw now.place (eqb_refl f.0), tt)))))
 
@@ -121,7 +118,7 @@ module _ (g : Given) (m : Machine) (f : Gppn) (d : Asid) (v : Gvpn) (w : Wear) (
   enter_frames = unfilled s f h.frame m h.accepted.looks.frames new h.whole
 
   pub enter_names : (j : Gppn) → j.0 ≢ f.0 → names_of n.tables j ≡ names_of m.tables j
-  enter_names j ne = names_other m.tables f (Page d v) j ne
+  enter_names j ne = names_other m.tables f (Some (d, v)) j ne
 
   pub enter_stays : (e : Asid) (y : Gvpn) → Within s e y → page_number s e y ≢ page_number s d v → Stays s e y m n
   enter_stays e y he ne =

@@ -1,5 +1,6 @@
 -- What is known of the context that acts and of its own page, where no check refuses the event: its domain is begun, the page's frame is
 -- within the setup, and a page that is to be cloaked is Public with a frame that names none, once that frame is sealed.
+use Rattle.std.specs.Prelude.{Option, Some, None}
 use mathlib.Core.Path.{◌∙◌, ◌≡◌, refl}
 use mathlib.Core.List.{[], ◌∷◌}
 use mathlib.Core.Bool.{not}
@@ -14,7 +15,6 @@ use Rattle.rules.specs.Sizes.{page_in, context_in}
 use Rattle.rules.specs.Asked.{Agreed}
 use Rattle.rules.specs.Bytes.{all_of}
 use Rattle.rules.specs.declared.Place.TheVariants.{Public}
-use Rattle.rules.specs.declared.Named.TheVariants.{Nothing}
 use Rattle.rules.specs.declared.Setup.{Setup}
 use Rattle.rules.specs.declared.Tables.{Tables}
 use Rattle.rules.specs.declared.Asid.{Asid}
@@ -23,8 +23,6 @@ use Rattle.rules.specs.declared.Gppn.{Gppn}
 use Rattle.rules.specs.declared.Ctc.{Ctc}
 use Rattle.rules.specs.declared.Activity.{Activity}
 use Rattle.rules.specs.declared.Activity.TheVariants.{Free, Running, Kept}
-use Rattle.rules.specs.declared.Mapping.{Mapping}
-use Rattle.rules.specs.declared.Mapping.TheVariants.{Unmapped, Mapped}
 use Rattle.rules.specs.declared.Event.TheVariants.{Cloak, Uncloak, Read, Write}
 use Rattle.rules.specs.declared.Span.{Span}
 use Rattle.rules.proofs.Facts.{Accepted}
@@ -46,10 +44,10 @@ module _ (s : Setup) (t : Tables) (agrees : Agreed s t) (c : Ctc) (hc : c.0 < s.
   unfolding running
   home h = home_at (activity_of t c) refl h
 
-  mapped_in : (d : Asid) (v : Gvpn) → Within s d v → (y : Mapping) → mapping_of s t d v ≡ y → T (not (is_unmapped y))
+  mapped_in : (d : Asid) (v : Gvpn) → Within s d v → (y : Option Gppn) → mapping_of s t d v ≡ y → T (not (is_unmapped y))
       → (frame_where y).0 < s.frames
-  mapped_in d v hd Unmapped e h = absurd h
-  mapped_in d v hd (Mapped f) e h = agrees.mapped d v f hd.domain hd.page e
+  mapped_in d v hd None e h = absurd h
+  mapped_in d v hd (Some f) e h = agrees.mapped d v f hd.domain hd.page e
 
   pub own_frame_holds : (v : Gvpn) → Within s (domain_of t c) v → T (own_mapped s t c v) → (own_frame s t c v).0 < s.frames
   unfolding own_mapped own_frame
@@ -126,7 +124,7 @@ module _ (g : Given) (m : Machine) (c : Ctc) (v : Gvpn) where
     pub frame : f.0 < s.frames
     pub room : Room g f m
     pub sealed : Accepted g q
-    pub none : names_of q.tables f ≡ Nothing
+    pub none : names_of q.tables f ≡ None
     pub lives : T (not (is_empty (life_of q.tables d)))
     pub shared : place_of s q.tables d v ≡ Public
 

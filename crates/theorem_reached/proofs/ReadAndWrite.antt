@@ -1,5 +1,6 @@
 -- Reading and writing a page at the frame to which it is mapped: the machine stays acceptable, the page's bytes stay or have new ones laid
 -- over them, and every other page's bytes stay.
+use Rattle.std.specs.Prelude.{None}
 use mathlib.Core.Path.{◌≡◌, refl, sym, ap, ◌∙◌, subst}
 use mathlib.Core.List.{List, []}
 use mathlib.Core.Bool.{Bool, true, false, cond}
@@ -22,7 +23,6 @@ use Rattle.rules.specs.declared.Life.TheVariants.{Stopped}
 use Rattle.rules.specs.declared.Wear.{Wear}
 use Rattle.rules.specs.declared.Wear.TheVariants.{Clean}
 use Rattle.rules.specs.declared.Place.TheVariants.{Public, Sealed}
-use Rattle.rules.specs.declared.Named.TheVariants.{Nothing}
 use Rattle.rules.proofs.PageNumbers.{number_one}
 use Rattle.rules.proofs.Facts.{Accepted}
 use Rattle.theorem_reached.proofs.SealFrames.{Enough, seal_all_accepted}
@@ -61,7 +61,7 @@ module _ (g : Given) (m : Machine) where
     pub sealed_first_quiet : (e : Asid) (w : Gvpn) → Within s e w → Quiet s e w m q
     sealed_first_quiet e w he = seal_all_quiet g e w he _ m accepted (first_fits g m accepted f hf d v hd) enough
 
-    pub opened_quiet : (k : ℕ) → place_of s q.tables d v ≡ Sealed k → names_of q.tables f ≡ Nothing → (e : Asid) (w : Gvpn)
+    pub opened_quiet : (k : ℕ) → place_of s q.tables d v ≡ Sealed k → names_of q.tables f ≡ None → (e : Asid) (w : Gvpn)
         → Within s e w → Quiet s e w m (unveiled g f d v k q)
     unfolding unveiled unveiled_tables
     opened_quiet k place none e w he = and_then_holds (sealed_first_quiet e w he) (at (ℕ_discrete (page_number s e w) (page_number s d v)))
@@ -127,7 +127,7 @@ module _ (g : Given) (m : Machine) where
             (is_same (stored_stays g o o-accepted f hf x new d v y holds e w he (λ r. eqb-false _ _ p (sym r)))))
 
     -- bytes stored to the frame of a Public page
-    did_shared : (x : Span) (new : List ℕ) → place_of s q.tables d v ≡ Public → names_of q.tables f ≡ Nothing
+    did_shared : (x : Span) (new : List ℕ) → place_of s q.tables d v ≡ Public → names_of q.tables f ≡ None
         → Did g m (writes x new) (done (marked_dirty s d v (store_span s f x new q)) [])
     unfolding writes
     did_shared x new shared none =

@@ -1,5 +1,6 @@
 -- Sealing what is Clear in one frame, and in a list of frames: the machine stays acceptable, the signatures counted beforehand
 -- suffice, and no more are taken than frames are listed.
+use Rattle.std.specs.Prelude.{Option, Some, None}
 use mathlib.Core.Path.{◌≡◌, refl, sym, ap, ◌∙◌}
 use mathlib.Core.List.{List, [], ◌∷◌}
 use Prim.Native.Nat.{ℕ, ◌+◌, ◌≤◌, ◌<◌}
@@ -19,8 +20,6 @@ use Rattle.rules.specs.declared.Wear.{Wear}
 use Rattle.rules.specs.declared.Wear.TheVariants.{Dirty, Clean}
 use Rattle.rules.specs.declared.Place.{Place}
 use Rattle.rules.specs.declared.Place.TheVariants.{Public, Clear, Sealed}
-use Rattle.rules.specs.declared.Named.{Named}
-use Rattle.rules.specs.declared.Named.TheVariants.{Nothing, Page}
 use Rattle.rules.proofs.PageNumbers.{same_frame}
 use Rattle.rules.proofs.Facts.{Accepted}
 use Rattle.theorem_reached.proofs.FramesAndSlots.{Within}
@@ -28,12 +27,12 @@ use Rattle.theorem_reached.proofs.SealPage.{Holds, pages_apart, sealed_names, ot
 
 -- a frame within the setup names nothing, and sealing it changes nothing; or it holds a page, which is sealed
 pub seal_either : (g : Given) (f : Gppn) (m : Machine) → Accepted g m → f.0 < g.setup.frames → (P : Machine → Type 0)
-    → (names_of m.tables f ≡ Nothing → P m)
+    → (names_of m.tables f ≡ None → P m)
     → ((d : Asid) (v : Gvpn) (w : Wear) → Holds g.setup m.tables f d v w → P (seal_page g f d v w m)) → P (seal g f m)
 unfolding seal seal_named seal_at
 seal_either g f m accepted hf P none one = named (names_of m.tables f) refl
   where
-    placed : (d : Asid) (v : Gvpn) → names_of m.tables f ≡ Page d v → Within g.setup d v → (p : Place)
+    placed : (d : Asid) (v : Gvpn) → names_of m.tables f ≡ Some (d, v) → Within g.setup d v → (p : Place)
         → place_of g.setup m.tables d v ≡ p → T (is_clear_in f p) → P (seal_at g f d v p m)
     placed d v n h Public e c = absurd c
     placed d v n h (Clear k w) e c =
@@ -41,9 +40,9 @@ seal_either g f m accepted hf P none one = named (names_of m.tables f) refl
         one d v w (record { frame = hf; within = h; names = n; place = e ∙ ap (λ (x : Gppn). Clear x w) q })
     placed d v n h (Sealed k) e c = absurd c
 
-    named : (n : Named) → names_of m.tables f ≡ n → P (seal_named g f n m)
-    named Nothing e = none e
-    named (Page d v) e =
+    named : (n : Option (Asid × Gvpn)) → names_of m.tables f ≡ n → P (seal_named g f n m)
+    named None e = none e
+    named (Some (d, v)) e =
         let c = accepted.looks.agrees.clear f d v hf e in
         placed d v e (record { domain = c.0; page = c.1 }) (place_of g.setup m.tables d v) refl c.2
 
@@ -58,12 +57,12 @@ seal_cases g f m P same one = named (names_of m.tables f)
     placed d v (Clear h w) = one d v w
     placed d v (Sealed k) = same
 
-    named : (n : Named) → P (seal_named g f n m)
-    named Nothing = same
-    named (Page d v) = placed d v (place_of g.setup m.tables d v)
+    named : (n : Option (Asid × Gvpn)) → P (seal_named g f n m)
+    named None = same
+    named (Some (d, v)) = placed d v (place_of g.setup m.tables d v)
 
 -- which of the two it is, told from the records
-pub seal_none : (g : Given) (f : Gppn) (m : Machine) → names_of m.tables f ≡ Nothing → seal g f m ≡ m
+pub seal_none : (g : Given) (f : Gppn) (m : Machine) → names_of m.tables f ≡ None → seal g f m ≡ m
 unfolding seal seal_named
 seal_none g f m none = rw none
 
@@ -107,9 +106,9 @@ module _ (g : Given) (f : Gppn) (m : Machine) (accepted : Accepted g m) (hf : f.
       seal_either g f m accepted hf (Accepted g) (λ _. accepted)
       (λ d v w h. sealed_accepted g f d v w m accepted h (room_held g f m d v w room h))
 
-  pub seal_names : names_of (seal g f m).tables f ≡ Nothing
+  pub seal_names : names_of (seal g f m).tables f ≡ None
   seal_names =
-      seal_either g f m accepted hf (λ n. names_of n.tables f ≡ Nothing) (λ e. e)
+      seal_either g f m accepted hf (λ n. names_of n.tables f ≡ None) (λ e. e)
       (λ d v w h. sealed_names g f d v w m accepted h (room_held g f m d v w room h))
 
   pub seal_used : (seal g f m).tables.used ≡ m.tables.used + takes_named g.setup m.tables (names_of m.tables f)
@@ -148,9 +147,10 @@ module _ (g : Given) (f : Gppn) (m : Machine) (accepted : Accepted g m) (hf : f.
           let fit = room_held g f m d v w room held in
           rw (others_names g f d v w m accepted held fit h ne) (same (names_of m.tables h) refl)
         where
-          same : (n : Named) → names_of m.tables h ≡ n → takes_named s (seal_page g f d v w m).tables n ≤ takes_named s m.tables n
-          same Nothing e = omega arith
-          same (Page x y) e =
+          same : (n : Option (Asid × Gvpn)) → names_of m.tables h ≡ n
+              → takes_named s (seal_page g f d v w m).tables n ≤ takes_named s m.tables n
+          same None e = omega arith
+          same (Some (x, y)) e =
               let apart = pages_apart s m.tables accepted.looks.agrees f d v w held h x y hh e ne in
               rw (others_place g f d v w m accepted held (room_held g f m d v w room held) x y apart) (omega arith)
 

@@ -1,5 +1,6 @@
 -- Sealing the page that is Clear in a frame: what then stands in its record, its slot, its frame and in all others, and that the machine
 -- stays acceptable.
+use Rattle.std.specs.Prelude.{Some, None}
 use mathlib.Core.Path.{◌≡◌, refl, sym, ap, ◌∙◌}
 use mathlib.Core.Logic.{◌≢◌}
 use Prim.Native.Nat.{ℕ, ◌+◌, ◌≤◌, ◌<◌}
@@ -20,7 +21,6 @@ use Rattle.rules.specs.declared.Wear.{Wear}
 use Rattle.rules.specs.declared.Wear.TheVariants.{Dirty, Clean}
 use Rattle.rules.specs.declared.Place.{Place}
 use Rattle.rules.specs.declared.Place.TheVariants.{Clear, Sealed}
-use Rattle.rules.specs.declared.Named.TheVariants.{Nothing, Page}
 use Rattle.rules.proofs.Parts.{length_with_part, part_fits, part_other}
 use Rattle.rules.proofs.PageNumbers.{number_one, same_frame}
 use Rattle.rules.proofs.Changes.{place_same, names_same, names_other}
@@ -33,7 +33,7 @@ use Rattle.theorem_reached.proofs.SoundPages.{number_long, moved_sound, place_ot
 pub record Holds (s : Setup) (t : Tables) (f : Gppn) (d : Asid) (v : Gvpn) (w : Wear) : Type 0 where
   pub frame : f.0 < s.frames
   pub within : Within s d v
-  pub names : names_of t f ≡ Page d v
+  pub names : names_of t f ≡ Some (d, v)
   pub place : place_of s t d v ≡ Clear f w
 
 -- the same bytes, the same place: what stays of a page while others change, and no signature is unused again
@@ -47,22 +47,21 @@ pub same_stays : (s : Setup) (d : Asid) (v : Gvpn) (m : Machine) → Stays s d v
 same_stays s d v m = record { place = refl; frame = λ f w c. refl; slot = refl; used = omega arith }
 
 -- two pages are not Clear in one frame
-pub frames_apart : (s : Setup) (t : Tables) → Agreed s t → (f : Gppn) (d : Asid) (v : Gvpn) → names_of t f ≡ Page d v
+pub frames_apart : (s : Setup) (t : Tables) → Agreed s t → (f : Gppn) (d : Asid) (v : Gvpn) → names_of t f ≡ Some (d, v)
     → (e : Asid) (w : Gvpn) → Within s e w → page_number s e w ≢ page_number s d v → (h : Gppn) (y : Wear)
     → place_of s t e w ≡ Clear h y → h.0 ≢ f.0
 frames_apart s t agrees f d v names e w he ne h y c q =
-    let n : names_of t h ≡ Page e w = (agrees.named e w h y he.domain he.page c).1 in
+    let n : names_of t h ≡ Some (e, w) = (agrees.named e w h y he.domain he.page c).1 in
     let r : h ≡ f = same_frame h f q in
-    let pd : e ≡ d = cc in
-    let pv : w ≡ v = cc in
-    ne (rw (pd, pv))
+    let one : ◌≡◌ {A = Asid × Gvpn} (e, w) (d, v) = cc in
+    ne (ap (λ (p : Asid × Gvpn). page_number s p.0 p.1) one)
 
 pub clear_in : (f h : Gppn) (w : Wear) (p : Place) → p ≡ Clear f w → T (is_clear_in h p) → h.0 ≡ f.0
 clear_in f h w p e c = sym (eqb→eq f.0 h.0 (rw e at c))
 
 -- another frame holds another page
 pub pages_apart : (s : Setup) (t : Tables) → Agreed s t → (f : Gppn) (d : Asid) (v : Gvpn) (w : Wear) → Holds s t f d v w
-    → (h : Gppn) (e : Asid) (x : Gvpn) → h.0 < s.frames → names_of t h ≡ Page e x → h.0 ≢ f.0 → page_number s e x ≢ page_number s d v
+    → (h : Gppn) (e : Asid) (x : Gvpn) → h.0 < s.frames → names_of t h ≡ Some (e, x) → h.0 ≢ f.0 → page_number s e x ≢ page_number s d v
 pages_apart s t agrees f d v w holds h e x hh names ne p =
     let c = agrees.clear h e x hh names in
     let k = number_one s e d x v c.1 holds.within.page p in
@@ -102,10 +101,10 @@ module _ (g : Given) (f : Gppn) (d : Asid) (v : Gvpn) (w : Wear) (m : Machine) (
   pub sealed_frame : frame_bytes s f n ≡ signature g (sealed_with m.tables.used w)
   sealed_frame = seal_shows_signature g f d v w m holds.frame accepted.looks.frames filled_whole
 
-  pub sealed_names : names_of n.tables f ≡ Nothing
+  pub sealed_names : names_of n.tables f ≡ None
   unfolding seal_page sealed_tables
   sealed_names =
-      names_same m.tables f Nothing (omega (arith, accepted.looks.shapes.frames, accepted.looks.sizes.frames, holds.frame))
+      names_same m.tables f None (omega (arith, accepted.looks.shapes.frames, accepted.looks.sizes.frames, holds.frame))
 
   -- and the others'
   pub others_place : (e : Asid) (x : Gvpn) → page_number s e x ≢ page_number s d v → place_of s n.tables e x ≡ place_of s m.tables e x
@@ -126,7 +125,7 @@ module _ (g : Given) (f : Gppn) (d : Asid) (v : Gvpn) (w : Wear) (m : Machine) (
 
   pub others_names : (h : Gppn) → h.0 ≢ f.0 → names_of n.tables h ≡ names_of m.tables h
   unfolding seal_page sealed_tables
-  others_names h ne = names_other m.tables f Nothing h ne
+  others_names h ne = names_other m.tables f None h ne
 
   pub sealed_used : m.tables.used ≤ n.tables.used
   unfolding seal_page sealed_tables
@@ -150,8 +149,7 @@ module _ (g : Given) (f : Gppn) (d : Asid) (v : Gvpn) (w : Wear) (m : Machine) (
       (private_lives g m accepted d v holds.within (rw holds.place tt)) (λ h c. clear_in f h w _ holds.place c)
       (λ e x q.
       let names = holds.names in
-      let pd : e ≡ d = cc in
-      let pv : x ≡ v = cc in
-      rw (pd, pv))
-      (m.tables.used + takes w) (omega arith) room (Sealed (sealed_with m.tables.used w)) Nothing
+      let one : ◌≡◌ {A = Asid × Gvpn} (e, x) (d, v) = cc in
+      ap (λ (p : Asid × Gvpn). page_number s p.0 p.1) one)
+      (m.tables.used + takes w) (omega arith) room (Sealed (sealed_with m.tables.used w)) None
       (lt→ltb _ _ sealed_below) tt)

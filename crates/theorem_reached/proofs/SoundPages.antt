@@ -1,5 +1,6 @@
 -- Changes of one page's record, with the frame in which it is Clear, that keep a state sound: a page that is mapped, sealed,
 -- unveiled, cloaked, uncloaked or marked dirty.
+use Rattle.std.specs.Prelude.{Option, Some}
 use mathlib.Core.Path.{◌≡◌, refl, ap, ◌∙◌}
 use mathlib.Core.Logic.{◌≢◌}
 use mathlib.Core.List.{List, [], ◌∷◌}
@@ -24,12 +25,9 @@ use Rattle.rules.specs.declared.Gvpn.{Gvpn}
 use Rattle.rules.specs.declared.Gppn.{Gppn}
 use Rattle.rules.specs.declared.PageRecord.{PageRecord}
 use Rattle.rules.specs.declared.FrameRecord.{FrameRecord}
-use Rattle.rules.specs.declared.Mapping.{Mapping}
 use Rattle.rules.specs.declared.Wear.{Wear}
 use Rattle.rules.specs.declared.Place.{Place}
 use Rattle.rules.specs.declared.Place.TheVariants.{Clear}
-use Rattle.rules.specs.declared.Named.{Named}
-use Rattle.rules.specs.declared.Named.TheVariants.{Page}
 use Rattle.rules.proofs.Facts.{Accepted}
 use Rattle.rules.proofs.Tests.{first_or, each, all}
 use Rattle.rules.proofs.PageNumbers.{number_in, number_one, number_within, same_frame}
@@ -63,7 +61,7 @@ module _ (s : Setup) (t : Tables) (d : Asid) (v : Gvpn) (r : PageRecord) where
       go false p h n = tt
 
 -- the page that a frame names is within the sizes
-pub named_within : (s : Setup) (t : Tables) (f : Gppn) (d : Asid) (v : Gvpn) → T (names_sound s t f (Page d v))
+pub named_within : (s : Setup) (t : Tables) (f : Gppn) (d : Asid) (v : Gvpn) → T (names_sound s t f (Some (d, v)))
     → (d.0 < s.domains) × (v.0 < s.pages)
 unfolding names_sound domain_in page_in
 named_within s t f d v h = let e = each _ h in (ltb→lt _ _ e.0, ltb→lt _ _ e.1.0)
@@ -119,8 +117,8 @@ module _ (g : Given) (m : Machine) (accepted : Accepted g m) (d : Asid) (v : Gvp
     pub rewritten_sound : length frames ≡ length x.tables.frames → x.tables.used ≤ used → used ≤ s.signatures
         → T (owned_sound s (rewritten s d v r frames used x.tables) d v r)
         → ((e : Asid) (w : Gvpn) (f : Gppn) (y : Wear) → e.0 < s.domains → w.0 < s.pages → page_number s e w ≢ page_number s d v
-        → place_of s x.tables e w ≡ Clear f y → names_of x.tables f ≡ Page e w
-        → names_of (rewritten s d v r frames used x.tables) f ≡ Page e w) → ((f : Gppn) → f.0 < s.frames
+        → place_of s x.tables e w ≡ Clear f y → names_of x.tables f ≡ Some (e, w)
+        → names_of (rewritten s d v r frames used x.tables) f ≡ Some (e, w)) → ((f : Gppn) → f.0 < s.frames
         → T (names_sound s (rewritten s d v r frames used x.tables) f (names_of (rewritten s d v r frames used x.tables) f)))
         → ((f : Gppn) → s.frames ≤ f.0 → T (names_none (names_of (rewritten s d v r frames used x.tables) f)))
         → Sound s (record { tables = rewritten s d v r frames used x.tables; saved = x.saved })
@@ -176,7 +174,7 @@ module _ (g : Given) (m : Machine) (accepted : Accepted g m) (d : Asid) (v : Gvp
       u : Tables
       u = rewritten s d v r t.frames t.used t
 
-      at : (f : Gppn) → f.0 < s.frames → (e : Asid) (w : Gvpn) → names_of t f ≡ Page e w → T (is_clear_in f (place_of s t e w))
+      at : (f : Gppn) → f.0 < s.frames → (e : Asid) (w : Gvpn) → names_of t f ≡ Some (e, w) → T (is_clear_in f (place_of s t e w))
           → Dec (page_number s e w ≡ page_number s d v) → T (is_clear_in f (place_of s u e w))
       at f hf e w q c (yes p) =
           let b = named_within s t f e w (rw q at (h.frame f hf)) in
@@ -186,7 +184,7 @@ module _ (g : Given) (m : Machine) (accepted : Accepted g m) (d : Asid) (v : Gvp
           rw (k.0, k.1, now) (stays f (rw (k.0, k.1) at c))
       at f hf e w q c (no ne) = rw (place_other s t d v r e w ne) c
 
-  pub mapping_sound_holds : (y : Mapping) → T (mapping_sound s y) → T (not (is_empty (life_of x.tables d)))
+  pub mapping_sound_holds : (y : Option Gppn) → T (mapping_sound s y) → T (not (is_empty (life_of x.tables d)))
       → Sound s (record { tables = with_mapping s d v y x.tables; saved = x.saved })
   mapping_sound_holds y ok lives =
       let r : PageRecord = record { mapping = y; place = place_of s x.tables d v } in
@@ -204,9 +202,9 @@ module _ (g : Given) (m : Machine) (accepted : Accepted g m) (d : Asid) (v : Gvp
   -- a page's place, and what frame f names: f named no other page, and the page was Clear in no other frame
   module _ (f : Gppn) (hf : f.0 < s.frames) (lives : T (not (is_empty (life_of x.tables d))))
       (here : (g : Gppn) → T (is_clear_in g (place_of s x.tables d v)) → g.0 ≡ f.0)
-      (free : (e : Asid) (w : Gvpn) → names_of x.tables f ≡ Page e w → page_number s e w ≡ page_number s d v)
+      (free : (e : Asid) (w : Gvpn) → names_of x.tables f ≡ Some (e, w) → page_number s e w ≡ page_number s d v)
       (used : ℕ) (more : x.tables.used ≤ used) (fit : used ≤ s.signatures) where
-    pub moved_sound : (q : Place) (n : Named)
+    pub moved_sound : (q : Place) (n : Option (Asid × Gvpn))
         → T (place_sound s (with_names f n (with_place s d v q (with_used used x.tables))) d v q)
         → T (names_sound s (with_names f n (with_place s d v q (with_used used x.tables))) f n)
         → Sound s (record { tables = with_names f n (with_place s d v q (with_used used x.tables)); saved = x.saved })
@@ -227,7 +225,7 @@ module _ (g : Given) (m : Machine) (accepted : Accepted g m) (d : Asid) (v : Gvp
         r : PageRecord
         r = record { mapping = mapping_of s t d v; place = q }
 
-        still : (g : Gppn) → g.0 < s.frames → g.0 ≢ f.0 → (e : Asid) (w : Gvpn) → names_of t g ≡ Page e w
+        still : (g : Gppn) → g.0 < s.frames → g.0 ≢ f.0 → (e : Asid) (w : Gvpn) → names_of t g ≡ Some (e, w)
             → T (is_clear_in g (place_of s t e w)) → Dec (page_number s e w ≡ page_number s d v) → T (is_clear_in g (place_of s u e w))
         still g hg ne e w m c (yes p) =
             let b = named_within s t g e w (rw m at (h.frame g hg)) in

@@ -1,5 +1,6 @@
 -- Changes of a domain's life, a context's activity and its saved registers keep a state sound. First, what the test of one record asks of
 -- the other tables: where those agree, the record passes as before.
+use Rattle.std.specs.Prelude.{Option, Some, None}
 use mathlib.Core.Path.{◌≡◌, refl}
 use mathlib.Core.List.{List}
 use mathlib.Core.Bool.{Bool, true, false, ◌||◌, not}
@@ -29,15 +30,13 @@ use Rattle.rules.specs.declared.Wear.{Wear}
 use Rattle.rules.specs.declared.Wear.TheVariants.{Dirty, Clean}
 use Rattle.rules.specs.declared.Place.{Place}
 use Rattle.rules.specs.declared.Place.TheVariants.{Public, Clear, Sealed}
-use Rattle.rules.specs.declared.Named.{Named}
-use Rattle.rules.specs.declared.Named.TheVariants.{Nothing, Page}
 use Rattle.rules.proofs.PageNumbers.{same_context_holds, same_domain}
 use Rattle.rules.proofs.Changes.{life_same, life_other, activity_same, activity_other}
 use Rattle.rules.proofs.Tests.{each, all, second_or}
 use Rattle.rules.proofs.Soundness.{names_it, Sound}
 
 -- one record's test, with other tables around it
-pub names_self : (d : Asid) (v : Gvpn) → T (names_page d v (Page d v))
+pub names_self : (d : Asid) (v : Gvpn) → T (names_page d v (Some (d, v)))
 names_self d v = all _ (eqb_refl d.0, (eqb_refl v.0, tt))
 
 module _ (s : Setup) (t u : Tables) where
@@ -58,20 +57,20 @@ module _ (s : Setup) (t u : Tables) where
   wear_kept more (Clean k) h = lt→ltb k u.used (omega (arith, ltb→lt k t.used h))
 
   pub place_sound_kept : t.used ≤ u.used → (d : Asid) (v : Gvpn) (p : Place)
-      → ((f : Gppn) (w : Wear) → p ≡ Clear f w → names_of t f ≡ Page d v → names_of u f ≡ Page d v) → T (place_sound s t d v p)
+      → ((f : Gppn) (w : Wear) → p ≡ Clear f w → names_of t f ≡ Some (d, v) → names_of u f ≡ Some (d, v)) → T (place_sound s t d v p)
       → T (place_sound s u d v p)
   unfolding place_sound
   place_sound_kept more d v Public names h = tt
   place_sound_kept more d v (Clear f w) names h =
       let e = each _ h in
-      let n : names_of u f ≡ Page d v = names f w refl (names_it d v (names_of t f) e.1.0) in
+      let n : names_of u f ≡ Some (d, v) = names f w refl (names_it d v (names_of t f) e.1.0) in
       all _ (e.0, (rw n (names_self d v), (wear_kept more w e.1.1.0, tt)))
   place_sound_kept more d v (Sealed k) names h = lt→ltb k u.used (omega (arith, ltb→lt k t.used h))
 
   -- a page's record stands as before where its domain lives, its frame names it, and no signature is unused again
   pub owned_kept : t.used ≤ u.used → (d : Asid) (v : Gvpn) (r : PageRecord)
       → (T (not (is_empty (life_of t d))) → T (not (is_empty (life_of u d))))
-      → ((f : Gppn) (w : Wear) → r.place ≡ Clear f w → names_of t f ≡ Page d v → names_of u f ≡ Page d v)
+      → ((f : Gppn) (w : Wear) → r.place ≡ Clear f w → names_of t f ≡ Some (d, v) → names_of u f ≡ Some (d, v))
       → T (owned_sound s t d v r) → T (owned_sound s u d v r)
   unfolding owned_sound
   owned_kept more d v r lives names h =
@@ -90,12 +89,12 @@ module _ (s : Setup) (t u : Tables) where
       lived false false l h = tt
 
   -- a frame's record stands as before where the page that it names is Clear there still
-  pub names_kept : (f : Gppn) (n : Named)
-      → ((d : Asid) (v : Gvpn) → n ≡ Page d v → T (is_clear_in f (place_of s t d v)) → T (is_clear_in f (place_of s u d v)))
+  pub names_kept : (f : Gppn) (n : Option (Asid × Gvpn))
+      → ((d : Asid) (v : Gvpn) → n ≡ Some (d, v) → T (is_clear_in f (place_of s t d v)) → T (is_clear_in f (place_of s u d v)))
       → T (names_sound s t f n) → T (names_sound s u f n)
   unfolding names_sound
-  names_kept f Nothing places h = tt
-  names_kept f (Page d v) places h = let e = each _ h in all _ (e.0, (e.1.0, (places d v refl e.1.1.0, tt)))
+  names_kept f None places h = tt
+  names_kept f (Some (d, v)) places h = let e = each _ h in all _ (e.0, (e.1.0, (places d v refl e.1.1.0, tt)))
 
 module _ (s : Setup) (x : State) (sizes : Limited s) (h : Sound s x) where
   -- a domain's life, where it is not Empty afterwards

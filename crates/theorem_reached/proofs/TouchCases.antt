@@ -1,5 +1,6 @@
 -- The three cases of a page that is touched at the frame to which it is mapped, once the frames in its way are sealed: it is Public and the
 -- frame names none, or it is Clear in that frame, or it is Sealed and the frame names none.
+use Rattle.std.specs.Prelude.{None}
 use mathlib.Core.Path.{◌≡◌, refl, ap, ◌∙◌}
 use mathlib.Core.List.{[], ◌∷◌}
 use mathlib.Core.Bool.{Bool, true, false, cond}
@@ -16,7 +17,6 @@ use Rattle.rules.specs.declared.Gppn.{Gppn}
 use Rattle.rules.specs.declared.Wear.{Wear}
 use Rattle.rules.specs.declared.Place.{Place}
 use Rattle.rules.specs.declared.Place.TheVariants.{Public, Clear, Sealed}
-use Rattle.rules.specs.declared.Named.TheVariants.{Nothing}
 use Rattle.rules.proofs.PageNumbers.{number_one, same_frame}
 use Rattle.rules.proofs.Facts.{Accepted}
 use Rattle.theorem_reached.proofs.SealFrames.{Enough, Fits, Room, room_held, room_first, room_rest, first_accepted, seal_either}
@@ -50,9 +50,9 @@ module _ (g : Given) (f : Gppn) (m : Machine) (accepted : Accepted g m) (hf : f.
 
 -- how a page and the frame to which it is mapped stand when it is touched
 pub data TouchCase (s : Setup) (t : Tables) (f : Gppn) (d : Asid) (v : Gvpn) : Type 0 where
-  public : place_of s t d v ≡ Public → names_of t f ≡ Nothing → TouchCase s t f d v
+  public : place_of s t d v ≡ Public → names_of t f ≡ None → TouchCase s t f d v
   there : (w : Wear) → Holds s t f d v w → TouchCase s t f d v
-  away : (k : ℕ) → place_of s t d v ≡ Sealed k → names_of t f ≡ Nothing → TouchCase s t f d v
+  away : (k : ℕ) → place_of s t d v ≡ Sealed k → names_of t f ≡ None → TouchCase s t f d v
 
 module _ (g : Given) (m : Machine) (accepted : Accepted g m) (f : Gppn) (hf : f.0 < g.setup.frames) (d : Asid) (v : Gvpn)
     (hd : Within g.setup d v) where

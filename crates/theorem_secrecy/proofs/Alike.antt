@@ -1,5 +1,6 @@
 -- When two machines are alike to the kernel, and the operations that keep them so: sealing, making a page Clear in a frame, filling a
 -- frame, ending a domain.
+use Rattle.std.specs.Prelude.{Option, Some, None}
 use mathlib.Core.Path.{◌≡◌, refl, sym, ap, ◌∙◌, subst}
 use mathlib.Core.List.{List, [], ◌∷◌}
 use mathlib.Core.Bool.{Bool, true, false, cond}
@@ -13,7 +14,6 @@ use Rattle.rules.specs.Bytes.{zeros}
 use Rattle.rules.specs.Sealing.{needed, signature, sealed_with, takes, sealed_tables, seal_page, seal, seal_all}
 use Rattle.rules.specs.Events.{ended_tables, ended}
 use Rattle.rules.specs.declared.Place.{Place}
-use Rattle.rules.specs.declared.Named.{Named}
 use Rattle.rules.specs.declared.Setup.{Setup}
 use Rattle.rules.specs.declared.Tables.{Tables}
 use Rattle.rules.specs.declared.Asid.{Asid}
@@ -23,13 +23,13 @@ use Rattle.rules.specs.declared.Ctc.{Ctc}
 use Rattle.rules.specs.declared.FrameRecord.{FrameRecord}
 use Rattle.rules.specs.declared.Wear.{Wear}
 use Rattle.rules.specs.declared.Place.TheVariants.{Clear}
-use Rattle.rules.specs.declared.Named.TheVariants.{Nothing, Page}
 use Rattle.rules.proofs.PageNumbers.{same_frame}
 use Rattle.rules.proofs.Facts.{Accepted}
 use Rattle.theorem_reached.proofs.SealFrames.{Enough, Fits, Room, room_held, room_first, room_rest, first_accepted, seal_either, seal_none}
 use Rattle.theorem_reached.proofs.SealFrames.{seal_held}
 use Rattle.theorem_reached.proofs.SealPage.{Holds, sealed_frame, others_frame, others_names}
-use Rattle.theorem_reached.proofs.MakeClear.{nothing_page, entered, Enters, enter_holds, enter_frames, enter_names, filled, unfilled}
+use Rattle.std.proofs.lemmas.Option.{none-some}
+use Rattle.theorem_reached.proofs.MakeClear.{entered, Enters, enter_holds, enter_frames, enter_names, filled, unfilled}
 use Rattle.theorem_reached.proofs.EndOfDomain.{ended_names}
 use Rattle.theorem_secrecy.proofs.FreedFrames.{end_zeroes}
 
@@ -38,11 +38,11 @@ pub record Alike (s : Setup) (m n : Machine) : Type 0 where
   pub seals : m.seals ≡ n.seals
   pub unveils : m.unveils ≡ n.unveils
   -- the frames that name no page hold the same bytes
-  pub bare : (f : Gppn) → f.0 < s.frames → names_of m.tables f ≡ Nothing → frame_bytes s f m ≡ frame_bytes s f n
+  pub bare : (f : Gppn) → f.0 < s.frames → names_of m.tables f ≡ None → frame_bytes s f m ≡ frame_bytes s f n
 
 -- what one machine's tables say, the other's say too
 module _ (s : Setup) (m n : Machine) (a : Alike s m n) where
-  pub names_alike : (f : Gppn) {x : Named} → names_of m.tables f ≡ x → names_of n.tables f ≡ x
+  pub names_alike : (f : Gppn) {x : Option (Asid × Gvpn)} → names_of m.tables f ≡ x → names_of n.tables f ≡ x
   names_alike f {x} = subst (λ (t : Tables). names_of t f ≡ x) a.tables
 
   pub place_alike : (d : Asid) (v : Gvpn) {x : Place} → place_of s m.tables d v ≡ x → place_of s n.tables d v ≡ x
@@ -73,7 +73,7 @@ module _ (g : Given) (f : Gppn) (m n : Machine) (gm : Accepted g m) (gn : Accept
       room' : n.tables.used + takes w ≤ g.setup.signatures
       room' = subst (λ (t : Tables). t.used + takes w ≤ g.setup.signatures) a.tables room
 
-      at : (h : Gppn) → h.0 < g.setup.frames → names_of (seal_page g f d v w m).tables h ≡ Nothing → Dec (h.0 ≡ f.0)
+      at : (h : Gppn) → h.0 < g.setup.frames → names_of (seal_page g f d v w m).tables h ≡ None → Dec (h.0 ≡ f.0)
           → frame_bytes g.setup h (seal_page g f d v w m) ≡ frame_bytes g.setup h (seal_page g f d v w n)
       at h hh q (yes p) =
           rw (same_frame h f p)
@@ -124,7 +124,7 @@ module _ (s : Setup) (m n : Machine) (a : Alike s m n) where
 module _ (g : Given) (m n : Machine) (gm : Accepted g m) (gn : Accepted g n) (a : Alike g.setup m n) (f : Gppn)
     (hf : f.0 < g.setup.frames)
     (x y : List ℕ) (wx : length x ≡ g.setup.size) (wy : length y ≡ g.setup.size) where
-  pub fill_alike : (names_of m.tables f ≡ Nothing → x ≡ y) → Alike g.setup (fill_frame g.setup f x m) (fill_frame g.setup f y n)
+  pub fill_alike : (names_of m.tables f ≡ None → x ≡ y) → Alike g.setup (fill_frame g.setup f x m) (fill_frame g.setup f y n)
   fill_alike same =
       record {
         tables = a.tables;
@@ -133,7 +133,7 @@ module _ (g : Given) (m n : Machine) (gm : Accepted g m) (gn : Accepted g n) (a 
         bare = λ h hh q. at h hh q (ℕ_discrete h.0 f.0);
       }
     where
-      at : (h : Gppn) → h.0 < g.setup.frames → names_of m.tables h ≡ Nothing → Dec (h.0 ≡ f.0)
+      at : (h : Gppn) → h.0 < g.setup.frames → names_of m.tables h ≡ None → Dec (h.0 ≡ f.0)
           → frame_bytes g.setup h (fill_frame g.setup f x m) ≡ frame_bytes g.setup h (fill_frame g.setup f y n)
       at h hh q (yes p) =
           rw (same_frame h f p)
@@ -149,7 +149,7 @@ pub enter_alike : (g : Given) (m n : Machine) → Alike g.setup m n → (f : Gpp
     → Alike g.setup (entered g.setup f d v w x k m) (entered g.setup f d v w y l n)
 enter_alike g m n a f d v w x y hm hn k l e =
     record {
-      tables = ap (λ (t : Tables). with_names f (Page d v) (with_place g.setup d v (Clear f w) t)) a.tables;
+      tables = ap (λ (t : Tables). with_names f (Some (d, v)) (with_place g.setup d v (Clear f w) t)) a.tables;
       seals = a.seals;
       unveils = e;
       bare = λ h hh q. at h hh q (ℕ_discrete h.0 f.0);
@@ -158,9 +158,9 @@ enter_alike g m n a f d v w x y hm hn k l e =
     o : Machine
     o = entered g.setup f d v w x k m
 
-    at : (h : Gppn) → h.0 < g.setup.frames → names_of o.tables h ≡ Nothing → Dec (h.0 ≡ f.0)
+    at : (h : Gppn) → h.0 < g.setup.frames → names_of o.tables h ≡ None → Dec (h.0 ≡ f.0)
         → frame_bytes g.setup h o ≡ frame_bytes g.setup h (entered g.setup f d v w y l n)
-    at h hh q (yes p) = absurd (nothing_page {d = d} {v = v} q (rw (same_frame h f p) (enter_holds g m f d v w x hm k).names))
+    at h hh q (yes p) = absurd (none-some (d, v) (sym q ∙ rw (same_frame h f p) (enter_holds g m f d v w x hm k).names))
     at h hh q (no ne) =
         enter_frames g m f d v w x hm k h ne ∙ a.bare h hh (sym (enter_names g m f d v w x hm k h ne) ∙ q) ∙ sym
         (enter_frames g n f d v w y hn l h ne)
@@ -181,7 +181,7 @@ ended_alike g m n gm gn a d hd =
           ∙ sym (end_zeroes g n gn d hd f);
     }
   where
-    at : (f : Gppn) → f.0 < g.setup.frames → (b : Bool) → cond b Nothing (names_of m.tables f) ≡ Nothing
+    at : (f : Gppn) → f.0 < g.setup.frames → (b : Bool) → cond b None (names_of m.tables f) ≡ None
         → cond b (zeros g.setup.size) (frame_bytes g.setup f m) ≡ cond b (zeros g.setup.size) (frame_bytes g.setup f n)
     at f hf true q = refl
     at f hf false q = a.bare f hf q

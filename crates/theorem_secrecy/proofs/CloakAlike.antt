@@ -1,4 +1,5 @@
 -- Two machines that are alike stay so where a context's activity and registers change, and where a page is cloaked or uncloaked.
+use Rattle.std.specs.Prelude.{None}
 use mathlib.Core.Path.{◌≡◌, refl, subst, ◌∙◌, sym, ap}
 use mathlib.Core.List.{List}
 use mathlib.Core.Bool.{not}
@@ -20,7 +21,6 @@ use Rattle.rules.specs.declared.Activity.{Activity}
 use Rattle.rules.specs.declared.Wear.TheVariants.{Dirty}
 use Rattle.rules.specs.declared.Place.{Place}
 use Rattle.rules.specs.declared.Place.TheVariants.{Public, Clear, Sealed}
-use Rattle.rules.specs.declared.Named.TheVariants.{Nothing}
 use Rattle.rules.specs.declared.Wear.{Wear}
 use Rattle.rules.proofs.Parts.{length_zeros}
 use Rattle.rules.proofs.Changes.{names_other}
@@ -43,7 +43,7 @@ module _ (g : Given) (m n : Machine) (gm : Accepted g m) (gn : Accepted g n) (a 
   unfolding turned
   turned_alike c k x y = saved_alike s _ _ (tables_alike s m n a (with_activity c k) (λ t. refl)) c x y
 
-  pub cloaked_alike : (f : Gppn) → f.0 < s.frames → names_of t f ≡ Nothing → (d : Asid) (v : Gvpn) → Within s d v
+  pub cloaked_alike : (f : Gppn) → f.0 < s.frames → names_of t f ≡ None → (d : Asid) (v : Gvpn) → Within s d v
       → T (not (is_empty (life_of t d))) → place_of s t d v ≡ Public → Alike s (cloaked s f d v m) (cloaked s f d v n)
   unfolding cloaked
   cloaked_alike f hf none d v hd lives place =
@@ -58,7 +58,7 @@ module _ (g : Given) (m n : Machine) (gm : Accepted g m) (gn : Accepted g n) (a 
   unfolding uncloaked_at zero_if_clear
   freed_alike d v hd f w e =
       record {
-        tables = ap (λ (u : Tables). with_place s d v Public (with_names f Nothing u)) a.tables;
+        tables = ap (λ (u : Tables). with_place s d v Public (with_names f None u)) a.tables;
         seals = a.seals;
         unveils = a.unveils;
         bare = λ h hh q. at h hh q (ℕ_discrete h.0 f.0);
@@ -73,13 +73,13 @@ module _ (g : Given) (m n : Machine) (gm : Accepted g m) (gn : Accepted g n) (a 
           subst (λ (o : Machine). frame_bytes s f o ≡ zeros s.size) (uncloaked_at_holds s d v (Clear f w) k place)
           (uncloak_zeroes s f d v k hf accepted.looks.frames w place)
 
-      at : (h : Gppn) → h.0 < s.frames → names_of (with_names f Nothing t) h ≡ Nothing → Dec (h.0 ≡ f.0)
+      at : (h : Gppn) → h.0 < s.frames → names_of (with_names f None t) h ≡ None → Dec (h.0 ≡ f.0)
           → frame_bytes s h (uncloaked_at s d v (Clear f w) m) ≡ frame_bytes s h (uncloaked_at s d v (Clear f w) n)
       at h hh q (yes p) =
           rw (same_frame h f p) (zero m gm e ∙ sym (zero n gn (place_alike s m n a d v e)))
       at h hh q (no ne) =
           unfilled s f hf m gm.looks.frames (zeros s.size) (length_zeros s.size) h ne ∙ a.bare h hh
-          (sym (names_other t f Nothing h ne) ∙ q)
+          (sym (names_other t f None h ne) ∙ q)
           ∙ sym (unfilled s f hf n gn.looks.frames (zeros s.size) (length_zeros s.size) h ne)
 
   pub uncloaked_alike : (d : Asid) (v : Gvpn) → Within s d v → Alike s (uncloaked s d v m) (uncloaked s d v n)

@@ -1,5 +1,6 @@
 -- Each of the fourteen events, where no check refuses it, in two machines that are alike: they stay alike, and what the kernel is given
 -- agrees.
+use Rattle.std.specs.Prelude.{Some, None}
 use mathlib.Core.Path.{◌≡◌, refl, ap}
 use mathlib.Core.List.{List, [], ◌∷◌}
 use mathlib.Core.Bool.{true≢false}
@@ -20,8 +21,6 @@ use Rattle.rules.specs.declared.Span.{Span}
 use Rattle.rules.specs.declared.Life.TheVariants.{Live}
 use Rattle.rules.specs.declared.TrapKind.{TrapKind}
 use Rattle.rules.specs.declared.Activity.TheVariants.{Free, Running, Kept}
-use Rattle.rules.specs.declared.Mapping.TheVariants.{Unmapped, Mapped}
-use Rattle.rules.specs.declared.Named.TheVariants.{Nothing}
 use Rattle.rules.specs.declared.Event.{Event}
 use Rattle.rules.specs.declared.Event.TheVariants.{Begin, End, Map, Unmap, KernelRead, KernelWrite, Resume, Spawn, Leave, Cloak, Uncloak}
 use Rattle.rules.specs.declared.Event.TheVariants.{Read, Write, Trap}
@@ -61,11 +60,11 @@ module _ (g : Given) (m n : Machine) (gn : Accepted g n) (a : Alike g.setup m n)
 
   mapped : (d : Asid) (v : Gvpn) (f : Gppn) → DoneAlike (Map d v f)
   unfolding perform row on_records seal_all does
-  mapped d v f p same = both_done s _ _ _ [] [] (tables_alike s m n a (with_mapping s d v (Mapped f)) (λ u. refl)) (λ _. refl)
+  mapped d v f p same = both_done s _ _ _ [] [] (tables_alike s m n a (with_mapping s d v (Some f)) (λ u. refl)) (λ _. refl)
 
   unmapped : (d : Asid) (v : Gvpn) → DoneAlike (Unmap d v)
   unfolding perform row on_records seal_all does
-  unmapped d v p same = both_done s _ _ _ [] [] (tables_alike s m n a (with_mapping s d v Unmapped) (λ u. refl)) (λ _. refl)
+  unmapped d v p same = both_done s _ _ _ [] [] (tables_alike s m n a (with_mapping s d v None) (λ u. refl)) (λ _. refl)
 
   -- a frame that the kernel reads or writes names no page once it is sealed
   module _ (f : Gppn) (hf : f.0 < s.frames) (accepted : Accepted g m) (enough : Enough g (f ∷ []) m) where
@@ -78,7 +77,7 @@ module _ (g : Given) (m n : Machine) (gn : Accepted g n) (a : Alike g.setup m n)
     kernel_accepted' : Accepted g (seal_all g (f ∷ []) n)
     kernel_accepted' = seal_all_accepted g (f ∷ []) n gn (hf, tt) (enough_alike g m n a (f ∷ []) enough)
 
-    kernel_bare : names_of (seal_all g (f ∷ []) m).tables f ≡ Nothing
+    kernel_bare : names_of (seal_all g (f ∷ []) m).tables f ≡ None
     unfolding seal_all
     kernel_bare = seal_names g f m accepted hf (room_first g f [] m enough)
 

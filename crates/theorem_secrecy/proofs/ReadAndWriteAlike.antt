@@ -1,5 +1,6 @@
 -- Reading and writing a page in two machines that are alike: the page is brought in in both or in neither, and what its frame holds may
 -- differ, since the frame names it.
+use Rattle.std.specs.Prelude.{None}
 use mathlib.Core.Path.{◌≡◌, refl, sym, ap, ap₂, ◌∙◌}
 use mathlib.Core.List.{List, []}
 use mathlib.Core.Bool.{Bool, true, false, not, true≢false}
@@ -19,12 +20,11 @@ use Rattle.rules.specs.declared.Wear.{Wear}
 use Rattle.rules.specs.declared.Wear.TheVariants.{Clean}
 use Rattle.rules.specs.declared.Place.{Place}
 use Rattle.rules.specs.declared.Place.TheVariants.{Public, Sealed}
-use Rattle.rules.specs.declared.Named.TheVariants.{Nothing}
 use Rattle.rules.proofs.Facts.{Accepted}
 use Rattle.theorem_reached.proofs.SealFrames.{Enough, Fits, seal_all_accepted}
 use Rattle.theorem_reached.proofs.FramesAndSlots.{Within}
 use Rattle.theorem_reached.proofs.SealPage.{Holds}
-use Rattle.theorem_reached.proofs.MakeClear.{nothing_page}
+use Rattle.std.proofs.lemmas.Option.{none-some}
 use Rattle.theorem_reached.proofs.TouchCases.{first_fits, touch_case}
 use Rattle.theorem_reached.proofs.PageFates.{seal_all_quiet, quiet_public}
 use Rattle.theorem_reached.proofs.BringIn.{bring_in_either, brings_public, brings_clear, brings_opened, brings_failed, sealed_enters}
@@ -47,14 +47,14 @@ both_done s alone m n x y a h = record { number = refl; machine = a; bytes = h }
 module _ (g : Given) (m n : Machine) (gm : Accepted g m) (gn : Accepted g n) (a : Alike g.setup m n) (f : Gppn)
     (hf : f.0 < g.setup.frames) (p : Span)
     (x y : List ℕ) where
-  pub span_alike : (names_of m.tables f ≡ Nothing → x ≡ y)
+  pub span_alike : (names_of m.tables f ≡ None → x ≡ y)
       → Alike g.setup (store_span g.setup f p x m) (store_span g.setup f p y n)
   unfolding store_span
   span_alike same =
       fill_alike g m n gm gn a f hf _ _ (laid_whole g m gm f hf p x) (laid_whole g n gn f hf p y)
       (λ none. ap₂ (overlay p.off) (same none) (a.bare f hf none))
 
-  pub span_given : names_of m.tables f ≡ Nothing → span_bytes g.setup f p m ≡ span_bytes g.setup f p n
+  pub span_given : names_of m.tables f ≡ None → span_bytes g.setup f p m ≡ span_bytes g.setup f p n
   unfolding span_bytes
   span_given none = ap (λ (b : List ℕ). take p.len (drop p.off b)) (a.bare f hf none)
 
@@ -96,7 +96,7 @@ module _ (g : Given) (m n : Machine) (gm : Accepted g m) (gn : Accepted g n) (a 
   public_as : is_public (place_of s q.tables d v) ≡ is_public (place_of s m.tables d v)
   public_as = quiet_public s d v m q (seal_all_quiet g d v hd fs m gm fits enough)
 
-  opened_alike : (k : ℕ) → place_of s q.tables d v ≡ Sealed k → names_of q.tables f ≡ Nothing
+  opened_alike : (k : ℕ) → place_of s q.tables d v ≡ Sealed k → names_of q.tables f ≡ None
       → Alike s (unveiled g f d v k q) (unveiled g f d v k r)
   unfolding unveiled unveiled_tables
   opened_alike k place none =
@@ -110,7 +110,7 @@ module _ (g : Given) (m n : Machine) (gm : Accepted g m) (gn : Accepted g n) (a 
 
   -- what is done with the page is done alike in four cases: it is Public, it is there, it is unveiled, or its domain is stopped
   pub touch_alike : (alone : Bool) (next next' : Machine → Effect)
-      → (place_of s q.tables d v ≡ Public → names_of q.tables f ≡ Nothing → SameEffect s alone (next q) (next' r))
+      → (place_of s q.tables d v ≡ Public → names_of q.tables f ≡ None → SameEffect s alone (next q) (next' r))
       → ((o u : Machine) (w : Wear) → Accepted g o → Accepted g u → Alike s o u → is_public (place_of s m.tables d v) ≡ false
       → Holds s o.tables f d v w → SameEffect s alone (next o) (next' u))
       → SameEffect s alone (and_then (bring_in g f d v q) next) (and_then (bring_in g f d v r) next')
@@ -158,4 +158,5 @@ module _ (g : Given) (m n : Machine) (gm : Accepted g m) (gn : Accepted g n) (a 
       (λ _. refl))
       (λ o u w go gu b private holds.
       both_done s false _ _ [] []
-      (marked_alike s _ _ (span_alike g o u go gu b f hf p x y (λ none. absurd (nothing_page none holds.names))) d v) (λ _. refl))
+      (marked_alike s _ _ (span_alike g o u go gu b f hf p x y (λ none. absurd (none-some (d, v) (sym none ∙ holds.names)))) d v)
+      (λ _. refl))

@@ -1,6 +1,7 @@
 -- Words of demand 3's first half: when two runs differ only in what is the application's alone, and what is the same to the
 -- kernel at a point of both.
-use Rattle.std.specs.Prelude.{◌≡◌, List, [], ◌∷◌, Bool, true, false, not, cond, ℕ, ◌-◌, ◌*◌, ◌/◌, ◌%◌, ◌^◌, ◌<◌, length, take, drop, eqb}
+use Rattle.std.specs.Prelude.{◌≡◌, List, [], ◌∷◌, Bool, true, false, not, cond, ℕ, ◌-◌, ◌*◌, ◌/◌, ◌%◌, ◌^◌, ◌<◌}
+use Rattle.std.specs.Prelude.{length, take, drop, eqb, None}
 use Rattle.rules.specs.Records.{Given, Machine, is_public, names_of, frame_bytes}
 use Rattle.rules.specs.Events.{own_place}
 use Rattle.rules.specs.Answers.{Outcome, step}
@@ -12,7 +13,6 @@ use Rattle.rules.specs.declared.Gppn.{Gppn}
 use Rattle.rules.specs.declared.Span.{Span}
 use Rattle.rules.specs.declared.TrapKind.{TrapKind}
 use Rattle.rules.specs.declared.TrapKind.TheVariants.{Interrupt, Call}
-use Rattle.rules.specs.declared.Named.TheVariants.{Nothing}
 use Rattle.rules.specs.declared.Event.{Event}
 use Rattle.rules.specs.declared.Event.TheVariants.{Begin, End, Map, Unmap, KernelRead, KernelWrite, Resume}
 use Rattle.rules.specs.declared.Event.TheVariants.{Spawn, Leave, Cloak, Uncloak, Read, Write, Trap}
@@ -90,7 +90,7 @@ told s t e o = says o.number o.seals o.unveils o.used (cond (for_application s t
 -- what a kernel read would give next, of any span of any frame.
 pub record SameToKernel (g : Given) (m n : Machine) : Type 0 where
   pub tables : m.tables ≡ n.tables
-  pub frames : (f : Gppn) → f.0 < g.setup.frames → names_of m.tables f ≡ Nothing
+  pub frames : (f : Gppn) → f.0 < g.setup.frames → names_of m.tables f ≡ None
       → frame_bytes g.setup f m ≡ frame_bytes g.setup f n
   pub looks : (f : Gppn) (p : Span) (buffer : List ℕ)
       → seen (step g (KernelRead f p) [] buffer m) ≡ seen (step g (KernelRead f p) [] buffer n)

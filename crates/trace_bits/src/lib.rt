@@ -22,6 +22,7 @@ pub struct Packed {
 }
 
 impl Packed {
+    // Nothing packed yet. A `Default` would be no plainer, and its name would not say so.
     pub fn none() -> Packed
         ensures { Bare result }
     {

@@ -28,10 +28,6 @@ used_at_holds f k w r e =
     let h : f.kind ≤ 8 = r.kind_bits_holds in
     omega arith
 
-pub head_at : (f : Form) (k : ℕ) (w : Widths) → w ≡ widths_of f k → head_for f.kind w ≡ head_of f k
-unfolding head_of
-head_at f k w e = ap (head_for f.kind) e
-
 -- every head of a right form is laid
 head_laid : (kind : ℕ) (w : Widths) → 1 ≤ kind → kind ≤ 8 → Small w → Laid (head_for kind w)
 head_laid kind w some h s =

@@ -4,8 +4,7 @@ use Rattle.rules.specs.OneAnswer.{OneAnswer}
 use Rattle.trace_form.proofs.Form.widths as widths
 use Rattle.trace_form.proofs.Form.head as head
 use Rattle.trace_form.proofs.Fields.of as fields
-use Rattle.trace_form.proofs.kernel_event as kernel-event
-use Rattle.trace_form.proofs.application_event as application-event
+use Rattle.trace_form.proofs.event_of as event-of
 use Rattle.trace_form.proofs.Head.padding_in as padding-in
 use Rattle.trace_form.proofs.Head.fields_in as fields_in
 use Rattle.trace_form.proofs.Head.packed as packed
@@ -19,11 +18,8 @@ head_one κs a x y e f p q = p ∙ sym q
 pub fields_one : OneAnswer 0 fields.Kinds.ps fields.Kinds.r fields.Reads.Learnt
 fields_one κs a x y e f p q = p ∙ sym q
 
-pub kernel_event_one : OneAnswer 0 kernel-event.Kinds.ps kernel-event.Kinds.r kernel-event.Reads.Learnt
-kernel_event_one κs a x y e f p q = p ∙ sym q
-
-pub application_event_one : OneAnswer 0 application-event.Kinds.ps application-event.Kinds.r application-event.Reads.Learnt
-application_event_one κs a x y e f p q = p ∙ sym q
+pub event_of_one : OneAnswer 0 event-of.Kinds.ps event-of.Kinds.r event-of.Reads.Learnt
+event_of_one κs a x y e f p q = p ∙ sym q
 
 pub padding_in_one : OneAnswer 0 padding-in.Kinds.ps padding-in.Kinds.r padding-in.Reads.Learnt
 padding_in_one κs a x y e f p q = p ∙ sym q

@@ -55,32 +55,30 @@ impl Form {
     // A header's bytes, without the signatures.
     pub const HEADER: usize = 6;
 
-    // The widths of a kind's fields, case by case.
+    // The widths of a kind's fields, case by case. A kind is a number, as the first bits of a record are, here and below: any number is
+    // asked for, whether or not it has an event.
     #[tactic(auto, unfolding(crate::specs::Form::widths_of))]
     pub fn widths(self, kind: usize) -> Widths
         ensures { result ≡ widths_of self kind }
     {
         let context = self.context;
         match kind {
-            0 => no_span(Form::DOMAIN, context, 0),
-            1 => no_span(Form::DOMAIN, 0, 0),
-            2 => no_span(Form::DOMAIN, Form::PAGE, Form::FRAME),
-            3 => no_span(Form::DOMAIN, Form::PAGE, 0),
-            4 => with_span(Form::FRAME, 0),
-            5 => with_span(Form::FRAME, 0),
-            6 => no_span(Form::DOMAIN, context, 0),
-            7 => no_span(context, context, 0),
-            8 => no_span(context, 0, 0),
-            9 => no_span(context, Form::PAGE, 0),
-            10 => no_span(context, Form::PAGE, 0),
-            11 => with_span(context, Form::PAGE),
-            12 => with_span(context, Form::PAGE),
-            13 => no_span(context, Form::TRAP, Form::MASK),
-            _ => no_span(0, 0, 0),
+            0 | 6 => Widths::numbers(Form::DOMAIN, context, 0),
+            1 => Widths::numbers(Form::DOMAIN, 0, 0),
+            2 => Widths::numbers(Form::DOMAIN, Form::PAGE, Form::FRAME),
+            3 => Widths::numbers(Form::DOMAIN, Form::PAGE, 0),
+            4 | 5 => Widths::with_span(Form::FRAME, 0),
+            7 => Widths::numbers(context, context, 0),
+            8 => Widths::numbers(context, 0, 0),
+            9 | 10 => Widths::numbers(context, Form::PAGE, 0),
+            11 | 12 => Widths::with_span(context, Form::PAGE),
+            13 => Widths::numbers(context, Form::TRAP, Form::MASK),
+            _ => Widths::numbers(0, 0, 0),
         }
     }
 
     // How the head of a record of that kind is laid out.
+    #[tactic(auto, using(crate::proofs::Heads::used_at_holds), unfolding(crate::specs::Form::head_of))]
     pub fn head(self, kind: usize) -> Head
         requires { Right self }
         ensures { result ≡ head_of self kind }
@@ -99,27 +97,27 @@ pub struct Widths {
     pub len: usize,
 }
 
-fn no_span(first: usize, second: usize, third: usize) -> Widths
-    ensures { result ≡ numbers first second third }
-{
-    Widths {
-        first,
-        second,
-        third,
-        off: 0,
-        len: 0,
+impl Widths {
+    fn numbers(first: usize, second: usize, third: usize) -> Widths
+        ensures { result ≡ numbers first second third }
+    {
+        Widths {
+            first,
+            second,
+            third,
+            off: 0,
+            len: 0,
+        }
     }
-}
 
-fn with_span(first: usize, second: usize) -> Widths
-    ensures { result ≡ with_span first second }
-{
-    Widths {
-        first,
-        second,
-        third: 0,
-        off: Form::OFF,
-        len: Form::LEN,
+    fn with_span(first: usize, second: usize) -> Widths
+        ensures { result ≡ with_span first second }
+    {
+        Widths {
+            off: Form::OFF,
+            len: Form::LEN,
+            ..Widths::numbers(first, second, 0)
+        }
     }
 }
 
@@ -171,14 +169,15 @@ impl Head {
         ensures { result ≡ join 0 (head_widths self) (values kind v) }
     {
         let w = self.widths;
-        let alone = Packed::none().with(self.kind, kind);
-        let one = alone.with(w.first, v.first as usize);
-        let two = one.with(w.second, v.second as usize);
-        let three = two.with(w.third, v.third as usize);
-        let four = three.with(w.off, v.span.off);
-        let five = four.with(w.len, v.span.len - 1);
-        let whole = five.with(self.padding, 0);
-        whole.number
+        Packed::none()
+            .with(self.kind, kind)
+            .with(w.first, v.first as usize)
+            .with(w.second, v.second as usize)
+            .with(w.third, v.third as usize)
+            .with(w.off, v.span.off)
+            .with(w.len, v.span.len - 1)
+            .with(self.padding, 0)
+            .number
     }
 }
 
@@ -211,70 +210,59 @@ impl Fields {
         ensures { result ≡ fields_of event }
     {
         match event {
-            Event::Begin(d, c) => plain(d.0, c.0, 0),
-            Event::End(d) => plain(d.0, 0, 0),
-            Event::Map(d, v, f) => plain(d.0, v.0, f.0),
-            Event::Unmap(d, v) => plain(d.0, v.0, 0),
-            Event::KernelRead(f, span) => spanning(f.0, 0, span),
-            Event::KernelWrite(f, span) => spanning(f.0, 0, span),
-            Event::Resume(d, c) => plain(d.0, c.0, 0),
-            Event::Spawn(c, u) => plain(c.0, u.0, 0),
-            Event::Leave(c) => plain(c.0, 0, 0),
-            Event::Cloak(c, v) => plain(c.0, v.0, 0),
-            Event::Uncloak(c, v) => plain(c.0, v.0, 0),
-            Event::Read(c, v, span) => spanning(c.0, v.0, span),
-            Event::Write(c, v, span) => spanning(c.0, v.0, span),
-            Event::Trap(c, kind, mask) => plain(c.0, trap_number(kind), mask),
+            Event::Begin(d, c) | Event::Resume(d, c) => Fields::plain(d.0, c.0, 0),
+            Event::End(d) => Fields::plain(d.0, 0, 0),
+            Event::Map(d, v, f) => Fields::plain(d.0, v.0, f.0),
+            Event::Unmap(d, v) => Fields::plain(d.0, v.0, 0),
+            Event::KernelRead(f, span) | Event::KernelWrite(f, span) => Fields::spanning(
+                f.0, 0, span,
+            ),
+            Event::Spawn(c, u) => Fields::plain(c.0, u.0, 0),
+            Event::Leave(c) => Fields::plain(c.0, 0, 0),
+            Event::Cloak(c, v) | Event::Uncloak(c, v) => Fields::plain(c.0, v.0, 0),
+            Event::Read(c, v, span) | Event::Write(c, v, span) => Fields::spanning(c.0, v.0, span),
+            Event::Trap(c, kind, mask) => Fields::plain(c.0, kind as u8, mask),
+        }
+    }
+
+    fn plain(first: u8, second: u8, third: u8) -> Fields
+        ensures { result ≡ fields first second third no_span }
+    {
+        let span = Span { off: 0, len: 1 };
+        Fields {
+            first,
+            second,
+            third,
+            span,
+        }
+    }
+
+    fn spanning(first: u8, second: u8, span: Span) -> Fields
+        ensures { result ≡ fields first second 0 span }
+    {
+        Fields {
+            first,
+            second,
+            third: 0,
+            span,
         }
     }
 }
 
-fn plain(first: u8, second: u8, third: u8) -> Fields
-    ensures { result ≡ fields first second third no_span }
-{
-    let span = Span { off: 0, len: 1 };
-    Fields {
-        first,
-        second,
-        third,
-        span,
-    }
-}
-
-fn spanning(first: u8, second: u8, span: Span) -> Fields
-    ensures { result ≡ fields first second 0 span }
-{
-    Fields {
-        first,
-        second,
-        third: 0,
-        span,
-    }
-}
-
-fn trap_number(kind: TrapKind) -> u8
-    ensures { result ≡ trap_number kind }
-{
-    match kind {
-        TrapKind::Interrupt => 0,
-        TrapKind::Call => 1,
-    }
-}
-
+// Any number but 0 is a call's: a function and no `From`, since `u8` and `TrapKind` are both declared elsewhere.
 fn trap_of(number: u8) -> TrapKind
     ensures { result ≡ trap_of number }
 {
-    if number == 0 {
-        TrapKind::Interrupt
-    } else {
-        TrapKind::Call
+    match number {
+        0 => TrapKind::Interrupt,
+        _ => TrapKind::Call,
     }
 }
 
-// The kernel's event of that kind, 0 to 6, with those fields.
+// The event of that kind with those fields.
 #[tactic(auto, unfolding(crate::specs::Form::event_of))]
-pub fn kernel_event(kind: usize, v: Fields) -> Event
-    requires { kind ≤ 6 }
+pub fn event_of(kind: usize, v: Fields) -> Event
+    requires { kind ≤ 13 }
     ensures { result ≡ event_of kind v }
 {
     let span = v.span;
@@ -285,18 +273,7 @@ pub fn kernel_event(kind: usize, v: Fields) -> Event
         3 => Event::Unmap(Asid(v.first), Gvpn(v.second)),
         4 => Event::KernelRead(Gppn(v.first), span),
         5 => Event::KernelWrite(Gppn(v.first), span),
-        _ => Event::Resume(Asid(v.first), Ctc(v.second)),
-    }
-}
-
-// The application's event of that kind, 7 to 13, with those fields.
-#[tactic(auto, unfolding(crate::specs::Form::event_of))]
-pub fn application_event(kind: usize, v: Fields) -> Event
-    requires { (7 ≤ kind) × (kind ≤ 13) }
-    ensures { result ≡ event_of kind v }
-{
-    let span = v.span;
-    match kind {
+        6 => Event::Resume(Asid(v.first), Ctc(v.second)),
         7 => Event::Spawn(Ctc(v.first), Ctc(v.second)),
         8 => Event::Leave(Ctc(v.first)),
         9 => Event::Cloak(Ctc(v.first), Gvpn(v.second)),

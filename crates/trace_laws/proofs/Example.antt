@@ -10,7 +10,8 @@ use Rattle.rules.specs.declared.Event.{Event}
 use Rattle.rules.specs.declared.Event.TheVariants.{Begin, KernelRead, Trap}
 use Rattle.rules.specs.declared.TrapKind.TheVariants.{Interrupt}
 use Rattle.trace_form.specs.Form.{first}
-use Rattle.trace_read.specs.Reading.{number_of, header_number, header_at, read_at}
+use Rattle.rules.specs.Refusals.{number_in}
+use Rattle.trace_read.specs.Reading.{header_at, read_at}
 use Rattle.trace_write.specs.Writing.{done, write_header, write_record}
 use Rattle.trace_laws.specs.Traces.{read_trace, write_trace}
 use Rattle.trace_laws.specs.Traces.Reading.{ended}
@@ -28,7 +29,7 @@ example_writes = refl
 
 -- The reader: kinds 14 and 15, before any 9; a record cut short, a padding bit set, data cut short; a place that the unread
 -- length cannot be added to, before all else; and the end, at the last place too.
-pub reader_refuses : map number_of
+pub reader_refuses : map number_in
     (read_at first (0xe0 ∷ []) 0
     ∷ read_at first (0xff ∷ []) 0
     ∷ read_at first (0x40 ∷ 0x00 ∷ []) 0
@@ -43,7 +44,7 @@ unfolding trace_computing
 reader_refuses = refl
 
 -- A header cut short, with a spare bit set, and with a signature's last byte missing.
-pub header_refuses : map header_number
+pub header_refuses : map number_in
     (header_at (take 5 example_trace)
     ∷ header_at (0x00 ∷ 0x01 ∷ 0x00 ∷ 0x40 ∷ 0x00 ∷ 0x01 ∷ [])
     ∷ header_at (take 37 example_trace)

@@ -10,6 +10,7 @@ use lib.Dec.{eqb, leb}
 use lib.ListN.{length, take, drop, take-append-drop, length-append, length-drop}
 use lib.Seq.{drop-drop, take_at, drop_at}
 use borrow.Author.Tests.{ne_eqb, eqb-true, eqb-false}
+use Rattle.std.specs.Prelude.{Some, None, Result, Ok, Err}
 use Rattle.rules.specs.Bytes.{Bytes, overlay}
 use Rattle.rules.specs.Events.{kind_of, data_length}
 use Rattle.rules.proofs.Parts.{length_overlay}
@@ -18,13 +19,15 @@ use Rattle.rules.specs.declared.Event.{Event}
 use Rattle.trace_form.specs.Form.{Right, head_of}
 use Rattle.trace_form.specs.declared.Form.{Form}
 use Rattle.trace_form.proofs.Heads.{laid}
-use Rattle.trace_read.specs.Reading.{kind_in, has_event, head_whole, event_at, data_at, record_of, read_at}
-use Rattle.trace_read.specs.declared.Found.{Found}
-use Rattle.trace_read.specs.declared.Found.TheVariants.{End, Refused, Record}
+use Rattle.rules.specs.Refusals.{number_of}
+use Rattle.rules.specs.declared.Refusal.{Refusal}
+use Rattle.rules.specs.declared.Refusal.TheVariants.{NoEvent, CutShort, NotAcceptable}
+use Rattle.trace_read.specs.Reading.{Found, kind_in, has_event, head_whole, event_at, record_at, data_at, record_of, found_of, read_at}
+use Rattle.trace_read.specs.declared.Record.{Record}
 use Rattle.trace_read.proofs.Places.{read_end}
 use Rattle.trace_write.specs.Writing.{Written, done, written, record_bytes, record_refusal, write_record}
 use Rattle.trace_write.proofs.Outputs.{overlay_front, length_record}
-use Rattle.trace_laws.specs.Traces.{Item, item, Records, also, read_on, read_records, Refusal, behind, write_records}
+use Rattle.trace_laws.specs.Traces.{Item, item, Records, also, read_on, read_records, Refusal as Reason, behind, write_records}
 use Rattle.trace_laws.specs.Traces.Records.{all, refused}
 use Rattle.trace_laws.proofs.Records.{stands, Fits, not_refused, fits_where_not_refused, read_fits, written_back}
 use Rattle.trace_laws.proofs.Records.{takes_a_byte, read_back, data_back, rest_back}
@@ -39,54 +42,67 @@ pub data AllFit (f : Form) : List Item → Type 0 where
   fit_more : {i : Item} {is : List Item} → Fits f i.event i.new → AllFit f is → AllFit f (i ∷ is)
 
 -- ENDING: what a step can be refused with
+-- a record, or one of the reader's refusals
+abbrev Whole : Result Record Refusal → Type 0
+Whole (Ok r) = Unit {0}
+Whole (Err r) = Reason (number_of r)
+
 -- where bytes are left, it is no end
 abbrev Something : Found → Type 0
-Something End = ⊥
-Something (Refused n) = Refusal n
-Something (Record e start len next) = Unit {0}
+Something (Ok None) = ⊥
+Something (Ok (Some r)) = Unit {0}
+Something (Err r) = Reason (number_of r)
+
+whole_or : (b : Bool) (x : Result Record Refusal) → Whole x → Whole (cond b x (Err CutShort))
+whole_or true x h = h
+whole_or false x h = inr (inl refl)
 
 either : (b : Bool) (x y : Found) → Something x → Something y → Something (cond b x y)
 either true x y hx hy = hx
 either false x y hx hy = hy
 
-some_data : (n p start : ℕ) (e : Event) → Something (data_at n p start e)
+whole_found : (x : Result Record Refusal) → Whole x → Something (found_of x)
+whole_found (Ok r) h = tt
+whole_found (Err r) h = h
+
+some_data : (n p start : ℕ) (e : Event) → Whole (data_at n p start e)
 unfolding data_at
 some_data n p start e =
     let len = data_length e in
-    either (leb (start + len) n) (Record e start len (p + start + len)) (Refused 9) tt (inr (inl refl))
+    whole_or (leb (start + len) n) (Ok (record_at e start len (p + start + len))) tt
 
-some_record : (f : Form) (k : ℕ) (s : List ℕ) (p : ℕ) → Something (record_of f k s p)
+some_record : (f : Form) (k : ℕ) (s : List ℕ) (p : ℕ) → Whole (record_of f k s p)
 unfolding record_of
 some_record f k s p =
     let bytes = (head_of f k).bytes in
-    either (head_whole f k s) (data_at (length s) p bytes (event_at f k s)) (Refused 9)
-    (some_data (length s) p bytes (event_at f k s)) (inr (inl refl))
+    whole_or (head_whole f k s) (data_at (length s) p bytes (event_at f k s))
+    (some_data (length s) p bytes (event_at f k s))
 
 something : (f : Form) (s : List ℕ) (p : ℕ) → (length s ≡ 0 → ⊥) → Something (read_at f s p)
 unfolding read_at
 something f s p ne =
     let k = kind_in f s in
-    let known = cond (has_event f k) (record_of f k s p) (Refused 1) in
+    let found = found_of (record_of f k s p) in
     rw (ne_eqb (length s) 0 ne)
-    (either (leb (2 ^ 64) (p + length s)) (Refused 10) known (inr (inr refl))
-    (either (has_event f k) (record_of f k s p) (Refused 1) (some_record f k s p) (inl refl)))
+    (either (leb (2 ^ 64) (p + length s)) (Err NotAcceptable) (cond (has_event f k) found (Err NoEvent)) (inr (inr refl))
+    (either (has_event f k) found (Err NoEvent) (whole_found (record_of f k s p) (some_record f k s p)) (inl refl)))
 
-refused_number : (f : Form) (s : List ℕ) (p n : ℕ) → read_at f s p ≡ Refused n → Refusal n
+refused_number : (f : Form) (s : List ℕ) (p : ℕ) (r : Refusal) → read_at f s p ≡ Err r → Reason (number_of r)
 unfolding read_at
-refused_number f [] p n e = at_end (leb (2 ^ 64) (p + 0)) e
+refused_number f [] p r e = at_end (leb (2 ^ 64) (p + 0)) e
   where
-    at_end : (b : Bool) → cond b (Refused 10) End ≡ Refused n → Refusal n
-    at_end true h = let z : 10 ≡ n = cc in inr (inr (sym z))
-    at_end false h = absurd (let z : ◌≡◌ {A = ℕ} 0 1 = cc in let q : ⊥ = omega arith in q)
-refused_number f (x ∷ s) p n e = subst Something e (something f (x ∷ s) p (λ z. omega (arith, z)))
+    at_end : (b : Bool) → cond {A = Found} b (Err NotAcceptable) (Ok None) ≡ Err r → Reason (number_of r)
+    at_end true h = let z : NotAcceptable ≡ r = cc in subst (λ (x : Refusal). Reason (number_of x)) z (inr (inr refl))
+    at_end false h = absurd (cc)
+refused_number f (x ∷ s) p r e = subst Something e (something f (x ∷ s) p (λ z. omega (arith, z)))
 
-pub no_bytes : (f : Form) (s : List ℕ) (p : ℕ) → read_at f s p ≡ End → s ≡ []
+pub no_bytes : (f : Form) (s : List ℕ) (p : ℕ) → read_at f s p ≡ Ok None → s ≡ []
 no_bytes f [] p e = refl
 no_bytes f (x ∷ s) p e = absurd (subst Something e (something f (x ∷ s) p (λ z. omega (arith, z))))
 
 abbrev pub Ended : Records → Type 0
 Ended (all is) = Unit {0}
-Ended (refused n) = Refusal n
+Ended (refused n) = Reason n
 
 ended_also : (i : Item) (r : Records) → Ended r → Ended (also i r)
 ended_also i (all is) h = tt
@@ -95,13 +111,14 @@ ended_also i (refused n) h = h
 module _ (f : Form) (right : Right f) where
   ended_on : (rest : List ℕ → ℕ → Records) (s : List ℕ) (p : ℕ) → ((u : List ℕ) (q : ℕ) → length u < length s → Ended (rest u q))
       → (r : Found) → read_at f s p ≡ r → Ended (read_on rest s p r)
-  ended_on rest s p ih End e = tt
-  ended_on rest s p ih (Refused n) e = refused_number f s p n e
-  ended_on rest s p ih (Record ev start len next) e =
-      let st = stands ev start len next f s p e in
-      let less : length (drop len (drop start s)) < length s =
-      omega (arith, length-drop len (drop start s), length-drop start s, st.inside, takes_a_byte f right s p ev start len next st) in
-      ended_also _ (rest (drop len (drop start s)) next) (ih (drop len (drop start s)) next less)
+  ended_on rest s p ih (Ok None) e = tt
+  ended_on rest s p ih (Err r) e = refused_number f s p r e
+  ended_on rest s p ih (Ok (Some r)) e =
+      let st = stands r f s p e in
+      let u : List ℕ = drop r.len (drop r.start s) in
+      let less : length u < length s =
+      omega (arith, length-drop r.len (drop r.start s), length-drop r.start s, st.inside, takes_a_byte f right s p r st) in
+      ended_also _ (rest u r.next) (ih u r.next less)
 
   pub records_end : (n : ℕ) (s : List ℕ) (p : ℕ) → length s ≤ n → Ended (read_records f n s p)
   unfolding read_records
@@ -124,24 +141,23 @@ module _ (f : Form) (right : Right f) where
       → ((u : List ℕ) (q : ℕ) (js : List Item) → rest u q ≡ all js → Bytes u → Held u js)
       → (s : List ℕ) (p : ℕ) (r : Found) → read_at f s p ≡ r → (is : List Item) → read_on rest s p r ≡ all is → Bytes s → Held s is
   unfolding items_bytes
-  held_on rest ih s p End e is h b =
+  held_on rest ih s p (Ok None) e is h b =
       let none : [] ≡ is = cc in
       subst (Held s) none (record { bytes = sym (no_bytes f s p e); fit = fit_end })
-  held_on rest ih s p (Refused n) e is h b =
-      absurd (let z : ◌≡◌ {A = ℕ} 0 1 = cc in let q : ⊥ = omega arith in q)
-  held_on rest ih s p (Record ev start len next) e is h b =
-      let st = stands ev start len next f s p e in
-      let u : List ℕ = drop len (drop start s) in
-      let past : u ≡ drop (start + len) s = drop-drop len start s in
-      let bu : Bytes u = subst Bytes (sym past) (bytes_drop (start + len) s b) in
-      also_all (item ev (take len (drop start s))) (rest u next) is h (Held s)
+  held_on rest ih s p (Err r) e is h b = absurd (cc)
+  held_on rest ih s p (Ok (Some r)) e is h b =
+      let st = stands r f s p e in
+      let u : List ℕ = drop r.len (drop r.start s) in
+      let past : u ≡ drop (r.start + r.len) s = drop-drop r.len r.start s in
+      let bu : Bytes u = subst Bytes (sym past) (bytes_drop (r.start + r.len) s b) in
+      also_all (item r.event (take r.len (drop r.start s))) (rest u r.next) is h (Held s)
       (λ js g.
-      let t = ih u next js g bu in
+      let t = ih u r.next js g bu in
       record {
         bytes =
-            ap₂ (λ (x y : List ℕ). x ++ y) (written_back f right s p ev start len next st b) (t.bytes ∙ past)
-            ∙ take-append-drop (start + len) s;
-        fit = fit_more (read_fits f right s p ev start len next st) t.fit;
+            ap₂ (λ (x y : List ℕ). x ++ y) (written_back f right s p r st b) (t.bytes ∙ past)
+            ∙ take-append-drop (r.start + r.len) s;
+        fit = fit_more (read_fits f right s p r st) t.fit;
       })
 
   pub records_held : (n : ℕ) (s : List ℕ) (p : ℕ) (is : List Item) → read_records f n s p ≡ all is → Bytes s → Held s is

@@ -10,6 +10,7 @@ use lib.ListN.{get_or, length, take, drop, length-append, length-take, length-dr
 use lib.Pow.{pow_mono}
 use lib.Seq.{take_at, drop_at, take-add}
 use borrow.Author.Tests.{leb-true, leb-false, lt-ltb, le-ltb, le-leb, eq-eqb}
+use Rattle.std.specs.Prelude.{Some, None, Result, Ok, Err}
 use Rattle.rules.specs.Bytes.{Bytes, all_of}
 use Rattle.rules.specs.Events.{kinds, kind_of, data_length}
 use Rattle.rules.specs.Answers.{check, first_of}
@@ -23,65 +24,69 @@ use Rattle.trace_form.specs.declared.Head.{Head}
 use Rattle.trace_form.specs.declared.Fields.{Fields}
 use Rattle.trace_form.proofs.Heads.{laid, length_head, values_of_head, values_back, kind_in_head, read_within, head_of_values}
 use Rattle.trace_form.proofs.Events.{kind_of_event, fields_of_event, event_of_fields}
-use Rattle.trace_read.specs.Reading.{kind_in, has_event, event_at, data_at, head_whole, record_of, read_at}
-use Rattle.trace_read.specs.declared.Found.{Found}
-use Rattle.trace_read.specs.declared.Found.TheVariants.{End, Refused, Record}
+use Rattle.rules.specs.declared.Refusal.{Refusal}
+use Rattle.rules.specs.declared.Refusal.TheVariants.{NoEvent, CutShort, NotAcceptable}
+use Rattle.trace_read.specs.Reading.{Found, kind_in, has_event, event_at, record_at, data_at, head_whole, record_of, found_of, read_at}
+use Rattle.trace_read.specs.declared.Record.{Record}
 use Rattle.trace_read.proofs.Places.{data_whole, head_read, read_record}
 use Rattle.trace_write.specs.Writing.{record_bytes, numbers_fit, span_fits, max_len, max_off, refusal_of, record_refusal}
 use Rattle.trace_write.proofs.Refusals.{record_ready}
 use Rattle.trace_write.proofs.Outputs.{length_record, kind_fits, fields_fit}
 
 -- what is known of a record that was read; k is its kind
-pub record Stands (f : Form) (unread : List ℕ) (place : ℕ) (e : Event) (start len next : ℕ) : Type 0 where
+pub record Stands (f : Form) (unread : List ℕ) (place : ℕ) (r : Record) : Type 0 where
   pub near : place + length unread < 2 ^ 64
   pub kind : ℕ
   pub is_kind : kind ≡ kind_in f unread
   pub below : kind < kinds
   pub head : (head_of f kind).bytes ≤ length unread
   pub padding : padding_in (values_at (head_of f kind) unread) ≡ 0
-  pub event : e ≡ event_of kind (fields_in (values_at (head_of f kind) unread))
-  pub start_at : start ≡ (head_of f kind).bytes
-  pub data_length_holds : len ≡ data_length e
-  pub inside : start + len ≤ length unread
-  pub next_at : next ≡ place + start + len
+  pub event : r.event ≡ event_of kind (fields_in (values_at (head_of f kind) unread))
+  pub start_at : r.start ≡ (head_of f kind).bytes
+  pub data_length_holds : r.len ≡ data_length r.event
+  pub inside : r.start + r.len ≤ length unread
+  pub next_at : r.next ≡ place + r.start + r.len
 
-module _ (e : Event) (start len next : ℕ) where
-  -- a test passed, where the other case is no record
-  no_refusal : {n : ℕ} → Refused n ≡ Record e start len next → ⊥
-  no_refusal h = let z : ◌≡◌ {A = ℕ} 0 1 = cc in omega arith
+-- a test passed, where the other case is no record
+taken : {A : Type 0} (r : A) (b : Bool) (x : Result A Refusal) (n : Refusal) → cond b x (Err n) ≡ Ok r
+    → (b ≡ true) × (x ≡ Ok r)
+taken r true x n h = (refl, h)
+taken r false x n h = absurd (cc)
 
-  no_end : End ≡ Record e start len next → ⊥
-  no_end h = let z : ◌≡◌ {A = ℕ} 0 1 = cc in omega arith
+left : {A : Type 0} (r : A) (b : Bool) (x y : Result A Refusal) → (x ≡ Ok r → ⊥) → cond b x y ≡ Ok r
+    → (b ≡ false) × (y ≡ Ok r)
+left r true x y g h = absurd (g h)
+left r false x y g h = (refl, h)
 
-  taken : (b : Bool) (x : Found) (n : ℕ) → cond b x (Refused n) ≡ Record e start len next
-      → (b ≡ true) × (x ≡ Record e start len next)
-  taken true x n h = (refl, h)
-  taken false x n h = absurd (no_refusal h)
+was_record : (r : Record) (x : Result Record Refusal) → found_of x ≡ Ok (Some r) → x ≡ Ok r
+was_record r (Ok y) h = cc
+was_record r (Err n) h = absurd (cc)
 
-  left : (b : Bool) (x y : Found) → (x ≡ Record e start len next → ⊥) → cond b x y ≡ Record e start len next
-      → (b ≡ false) × (y ≡ Record e start len next)
-  left true x y g h = absurd (g h)
-  left false x y g h = (refl, h)
+module _ (r : Record) where
+  no_refusal : {n : Refusal} → ◌≡◌ {A = Found} (Err n) (Ok (Some r)) → ⊥
+  no_refusal h = cc
 
-  pub stands : (f : Form) (unread : List ℕ) (place : ℕ) → read_at f unread place ≡ Record e start len next
-      → Stands f unread place e start len next
+  no_end : ◌≡◌ {A = Found} (Ok None) (Ok (Some r)) → ⊥
+  no_end h = cc
+
+  pub stands : (f : Form) (unread : List ℕ) (place : ℕ) → read_at f unread place ≡ Ok (Some r) → Stands f unread place r
   unfolding read_at record_of has_event head_whole event_at data_at
   stands f unread place h =
       let k : ℕ = kind_in f unread in
       let hd : Head = head_of f k in
-      let e' : Event = event_of k (fields_in (values_at hd unread)) in
-      let far = left (leb (2 ^ 64) (place + length unread)) (Refused 10) _ no_refusal h in
-      let some = left (eqb (length unread) 0) End _ no_end far.1 in
-      let known = taken (all_of (ltb k f.kinds ∷ ltb k kinds ∷ [])) (record_of f k unread place) 1 some.1 in
-      let heads = taken (all_of (leb hd.bytes (length unread) ∷ eqb (padding_in (values_at hd unread)) 0 ∷ []))
-      (data_at (length unread) place hd.bytes e') 9 known.1 in
-      let all = taken (leb (hd.bytes + data_length e') (length unread))
-      (Record e' hd.bytes (data_length e') (place + hd.bytes + data_length e')) 9 heads.1 in
-      let is : Record e' hd.bytes (data_length e') (place + hd.bytes + data_length e') ≡ Record e start len next = all.1 in
-      let ee : e ≡ e' = cc in
-      let es : start ≡ hd.bytes = cc in
-      let el : len ≡ data_length e' = cc in
-      let en : next ≡ place + hd.bytes + data_length e' = cc in
+      let e : Event = event_of k (fields_in (values_at hd unread)) in
+      let whole : Record = record_at e hd.bytes (data_length e) (place + hd.bytes + data_length e) in
+      let far = left (Some r) (leb (2 ^ 64) (place + length unread)) (Err NotAcceptable) _ no_refusal h in
+      let some = left (Some r) (eqb (length unread) 0) (Ok None) _ no_end far.1 in
+      let known = taken (Some r) (all_of (ltb k f.kinds ∷ ltb k kinds ∷ [])) (found_of (record_of f k unread place)) NoEvent some.1 in
+      let heads = taken r (all_of (leb hd.bytes (length unread) ∷ eqb (padding_in (values_at hd unread)) 0 ∷ []))
+      (data_at (length unread) place hd.bytes e) CutShort (was_record r (record_of f k unread place) known.1) in
+      let all = taken r (leb (hd.bytes + data_length e) (length unread)) (Ok whole) CutShort heads.1 in
+      let is : whole ≡ r = cc (all.1) in
+      let ee : r.event ≡ e = sym (ap (λ (x : Record). x.event) is) in
+      let es : r.start ≡ hd.bytes = sym (ap (λ (x : Record). x.start) is) in
+      let el : r.len ≡ data_length e = sym (ap (λ (x : Record). x.len) is) in
+      let en : r.next ≡ place + hd.bytes + data_length e = sym (ap (λ (x : Record). x.next) is) in
       let ks = each (ltb k f.kinds ∷ ltb k kinds ∷ []) (passed _ known.0) in
       let hs = each (leb hd.bytes (length unread) ∷ eqb (padding_in (values_at hd unread)) 0 ∷ []) (passed _ heads.0) in
       record {
@@ -96,7 +101,7 @@ module _ (e : Event) (start len next : ℕ) where
         data_length_holds = el ∙ ap data_length (sym ee);
         inside =
             subst₂ (λ (x y : ℕ). x + y ≤ length unread) (sym es) (sym el)
-            (leb-true (hd.bytes + data_length e') (length unread) all.0);
+            (leb-true (hd.bytes + data_length e) (length unread) all.0);
         next_at = en ∙ sym (ap₂ (λ (x y : ℕ). place + x + y) es el);
       }
 
@@ -139,7 +144,7 @@ module _ (f : Form) (right : Right f) where
       (record { fields = fields_fit f e right (data_length e) (length new) room r; data_length_holds = r.data_length_holds }, r.enough)
 
   -- WRITING WHAT WAS READ
-  module _ (unread : List ℕ) (place : ℕ) (e : Event) (start len next : ℕ) (st : Stands f unread place e start len next) where
+  module _ (unread : List ℕ) (place : ℕ) (r : Record) (st : Stands f unread place r) where
     abbrev k : ℕ
     k = st.kind
 
@@ -153,39 +158,39 @@ module _ (f : Form) (right : Right f) where
     unfolding head_of
     within = read_within hd (laid f k right) unread
 
-    kind_same : kind_of e ≡ k
+    kind_same : kind_of r.event ≡ k
     kind_same = ap kind_of st.event ∙ kind_of_event v k st.below
 
-    fields_same : fields_of e ≡ v
+    fields_same : fields_of r.event ≡ v
     fields_same = ap fields_of st.event ∙ fields_of_event f v k st.below within
 
-    head_same : head_of f (kind_of e) ≡ hd
+    head_same : head_of f (kind_of r.event) ≡ hd
     head_same = ap (head_of f) kind_same
 
-    pub read_fits : Fits f e (take len (drop start unread))
+    pub read_fits : Fits f r.event (take r.len (drop r.start unread))
     unfolding head_of
     read_fits =
         record {
           fields = subst₂ (λ (x : ℕ) (y : Fields). Within (widths_of f x) y) (sym kind_same) (sym fields_same) within;
           data_length_holds =
-              length-take len (drop start unread)
-              ∙ omega (arith, length-drop start unread, st.inside, st.data_length_holds);
+              length-take r.len (drop r.start unread)
+              ∙ omega (arith, length-drop r.start unread, st.inside, st.data_length_holds);
         }
 
     kind_first : k ≡ get_or unread 0 0 / 2 ^ (8 - hd.kind)
     unfolding head_of kind_in
     kind_first = st.is_kind
 
-    pub written_back : Bytes unread → record_bytes f e (take len (drop start unread)) ≡ take (start + len) unread
+    pub written_back : Bytes unread → record_bytes f r.event (take r.len (drop r.start unread)) ≡ take (r.start + r.len) unread
     unfolding record_bytes
     written_back b =
-        let heads : head_bytes (head_of f (kind_of e)) (kind_of e) (fields_of e) ≡ take hd.bytes unread =
+        let heads : head_bytes (head_of f (kind_of r.event)) (kind_of r.event) (fields_of r.event) ≡ take hd.bytes unread =
         ap₂ (λ (x : ℕ) (y : Fields). head_bytes (head_of f x) x y) kind_same fields_same
         ∙ head_of_values hd (laid f k right) unread k st.head b kind_first st.padding in
-        ap (λ (x : List ℕ). x ++ take len (drop start unread)) (heads ∙ ap (λ (x : ℕ). take x unread) (sym st.start_at))
-        ∙ sym (take-add start len unread)
+        ap (λ (x : List ℕ). x ++ take r.len (drop r.start unread)) (heads ∙ ap (λ (x : ℕ). take x unread) (sym st.start_at))
+        ∙ sym (take-add r.start r.len unread)
 
-    pub takes_a_byte : 1 ≤ start + len
+    pub takes_a_byte : 1 ≤ r.start + r.len
     takes_a_byte = omega (arith, st.start_at, (laid f k right).some)
 
   -- READING WHAT WAS WRITTEN
@@ -230,7 +235,11 @@ module _ (f : Form) (right : Right f) where
     values_same : values_at head bytes ≡ values (kind_of e) (fields_of e)
     values_same = values_of_head head laid_head (kind_of e) (fields_of e) (kind_fits f e right) fit.fields bytes begins
 
-    record_back : Record e head.bytes (data_length e) (place + head.bytes + data_length e) ≡ record_of f (kind_of e) bytes place
+    -- the record that is read of it
+    abbrev pub whole : Record
+    whole = record_at e head.bytes (data_length e) (place + head.bytes + data_length e)
+
+    record_back : Ok whole ≡ record_of f (kind_of e) bytes place
     unfolding values_at
     record_back =
         head_read f bytes place (kind_of e) head refl (omega (arith, length_bytes)) _ refl
@@ -240,10 +249,10 @@ module _ (f : Form) (right : Right f) where
         (data_whole (length bytes) place head.bytes e (data_length e) refl (omega (arith, length_bytes)) (omega (arith, length_bytes)))
 
     pub read_back : place + length bytes < 2 ^ 64
-        → read_at f bytes place ≡ Record e head.bytes (data_length e) (place + head.bytes + data_length e)
+        → read_at f bytes place ≡ Ok (Some whole)
     read_back near =
         sym (read_record f bytes place near (λ z. omega (arith, z, length_bytes, laid_head.some)) (kind_of e) kind_back _
-        (lt_of_lt_of_le (kind_below e) right.every) (kind_below e) record_back)
+        (lt_of_lt_of_le (kind_below e) right.every) (kind_below e) (ap found_of record_back))
 
     -- its data, and what is unread behind it
     pub data_back : take (data_length e) (drop head.bytes bytes) ≡ new

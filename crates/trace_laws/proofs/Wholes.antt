@@ -10,6 +10,7 @@ use lib.Dec.{T, eqb, leb, lit≤}
 use lib.ListN.{length, take, drop, take-append-drop, length-append, length-take, length-drop}
 use lib.Seq.{take_at, drop_at, take-add}
 use borrow.Author.Tests.{eqb-true, eqb-false, ne_eqb, eq-eqb, le-ltb}
+use Rattle.std.specs.Prelude.{Ok, Err}
 use Rattle.rules.specs.Bytes.{Bytes, number, overlay, all_of}
 use Rattle.rules.specs.Asked.{Limited}
 use Rattle.rules.proofs.BigEndian.{bytes_drop}
@@ -18,13 +19,14 @@ use Rattle.rules.specs.Records.{Given, given}
 use Rattle.rules.specs.Answers.{check, first_of}
 use Rattle.rules.proofs.Facts.{passes, limited}
 use Rattle.rules.specs.declared.Setup.{Setup}
+use Rattle.rules.specs.Refusals.{number_of}
 use Rattle.trace_form.specs.Form.{Right, first}
 use Rattle.trace_form.specs.Header.{header_length, setup_in, setup_values, spare_in, supply_length, header_bytes, header_of, header_values}
 use Rattle.trace_form.proofs.Headers.{length_header, setup_back, values_of_header, read_in_range, header_of_values}
-use Rattle.trace_read.specs.Reading.{records_from, sizes_of, sizes_whole, sizes_at, signed, header_at}
-use Rattle.trace_read.specs.declared.Header.{Header}
-use Rattle.trace_read.specs.declared.Header.TheVariants.{Sizes, Refused}
-use Rattle.trace_read.proofs.Headers.{Opened, opened, sizes_read, header_whole}
+use Rattle.rules.specs.declared.Refusal.TheVariants.{CutShort}
+use Rattle.trace_read.specs.Reading.{Header, records_from, opened_at, sizes_of, sizes_whole, sizes_at, signed, header_at}
+use Rattle.trace_read.specs.declared.Opened.{Opened}
+use Rattle.trace_read.proofs.Headers.{HeaderRead, opened, sizes_read, header_whole}
 use Rattle.trace_write.specs.Writing.{Written, done, written, header_refusal, write_header}
 use Rattle.trace_write.proofs.Refusals.{header_ready}
 use Rattle.trace_write.proofs.Outputs.{overlay_front, length_header_of}
@@ -54,21 +56,22 @@ length_trace c =
 
 -- ENDING: a header is refused with 9
 abbrev Nine : Header → Type 0
-Nine (Sizes s at) = Unit {0}
-Nine (Refused n) = n ≡ 9
+Nine (Ok o) = Unit {0}
+Nine (Err r) = r ≡ CutShort
 
-nine : (b : Bool) (s : Setup) (at : ℕ) → Nine (cond b (Sizes s at) (Refused 9))
-nine true s at = tt
-nine false s at = refl
+nine : (b : Bool) (o : Opened) → Nine (cond b (Ok o) (Err CutShort))
+nine true o = tt
+nine false o = refl
 
 nine_signed : (m : ℕ) (h : Header) → Nine h → Nine (signed m h)
-nine_signed m (Sizes s at) t = nine (leb at m) s at
-nine_signed m (Refused n) t = t
+nine_signed m (Ok o) t = nine (leb o.records m) o
+nine_signed m (Err r) t = t
 
 nine_header : (t : List ℕ) → Nine (header_at t)
 unfolding header_at sizes_at
 nine_header t =
-    nine_signed (length t) (sizes_at t) (nine (sizes_whole t) (setup_in (header_values t)) (records_from (setup_in (header_values t))))
+    let s = setup_in (header_values t) in
+    nine_signed (length t) (sizes_at t) (nine (sizes_whole t) (opened_at s (records_from s)))
 
 pub trace_ends : (t : List ℕ) → Ends (read_trace t)
 unfolding read_trace
@@ -79,9 +82,11 @@ trace_ends t = go (header_at t) refl
     records g (refused n) h = h
 
     go : (h : Header) → header_at t ≡ h → Ends (read_from t h)
-    go (Refused n) e = inr (inl (subst Nine e (nine_header t)))
-    go (Sizes s at) e =
-        records (given s (take (supply_length s) (drop header_length t))) (read_records first (length t) (drop at t) at)
+    go (Err r) e = inr (inl (ap number_of (subst Nine e (nine_header t))))
+    go (Ok o) e =
+        let at = o.records in
+        records (given o.setup (take (supply_length o.setup) (drop header_length t)))
+        (read_records first (length t) (drop at t) at)
         (records_end first first_right (length t) (drop at t) at (omega (arith, length-drop at t)))
 
 -- READING, THEN WRITING
@@ -99,31 +104,34 @@ module _ (t : List ℕ) (b : Bytes t) where
   unfolding header_values
   read_sizes s e = subst (λ (x : Setup). T (setup_in_range x)) (sym e) (read_in_range (number (take header_length t)))
 
-  header_kept : (s : Setup) (at : ℕ) → Opened t s at → header_of s (take (supply_length s) (drop header_length t)) ≡ take at t
+  header_kept : (o : Opened) → HeaderRead t o
+      → header_of o.setup (take (supply_length o.setup) (drop header_length t)) ≡ take o.records t
   unfolding header_of
-  header_kept s at o =
-      ap (λ (x : List ℕ). x ++ take (supply_length s) (drop header_length t))
-      (ap header_bytes o.setup ∙ header_of_values t o.long b o.spare)
-      ∙ sym (take-add header_length (supply_length s) t)
-      ∙ ap (λ (x : ℕ). take x t) (sym o.start)
+  header_kept o h =
+      ap (λ (x : List ℕ). x ++ take (supply_length o.setup) (drop header_length t))
+      (ap header_bytes h.setup ∙ header_of_values t h.long b h.spare)
+      ∙ sym (take-add header_length (supply_length o.setup) t)
+      ∙ ap (λ (x : ℕ). take x t) (sym h.start)
 
   kept_from : (c : Content) (h : Header) → header_at t ≡ h → read_from t h ≡ ended c → Kept t c
   unfolding trace_bytes
-  kept_from c (Refused n) eh e = absurd (let z : ◌≡◌ {A = ℕ} 0 1 = cc in let q : ⊥ = omega arith in q)
-  kept_from c (Sizes s at) eh e =
-      let o = opened s at t eh in
+  kept_from c (Err r) eh e = absurd (cc)
+  kept_from c (Ok o) eh e =
+      let s : Setup = o.setup in
+      let at : ℕ = o.records in
+      let hr = opened o t eh in
       let supply : List ℕ = take (supply_length s) (drop header_length t) in
       with_ended (given s supply) (read_records first (length t) (drop at t) at) c e (Kept t)
       (λ is g.
       let held = records_held first first_right (length t) (drop at t) at is g (bytes_drop at t b) in
       record {
-        bytes = ap₂ (λ (x y : List ℕ). x ++ y) (header_kept s at o) held.bytes ∙ take-append-drop at t;
+        bytes = ap₂ (λ (x y : List ℕ). x ++ y) (header_kept o hr) held.bytes ∙ take-append-drop at t;
         writable =
             record {
-              sizes = read_sizes s o.setup;
+              sizes = read_sizes s hr.setup;
               signatures =
                   length-take (supply_length s) (drop header_length t)
-                  ∙ omega (arith, length-drop header_length t, o.start, o.whole);
+                  ∙ omega (arith, length-drop header_length t, hr.start, hr.whole);
               records = held.fit;
             };
       })
@@ -226,10 +234,9 @@ module _ (c : Content) (w : Writable c) where
       (spare_in (header_values bytes)) setup refl (ap spare_in values_same)
       (sym (ap setup_in values_same ∙ setup_back setup range))
 
-  header_back : sizes_of setup ≡ header_at bytes
+  header_back : header_at bytes ≡ sizes_of setup
   header_back =
-      header_whole bytes (sizes_of setup) sizes_back setup (records_from setup) refl
-      (omega (arith, length_trace c, w.signatures))
+      header_whole bytes (opened_at setup (records_from setup)) (sym sizes_back) (omega (arith, length_trace c, w.signatures))
 
   supply_back : take (supply_length setup) (drop header_length bytes) ≡ signatures
   supply_back = ap (take (supply_length setup)) behind_header ∙ take_at signatures _ (supply_length setup) w.signatures
@@ -245,7 +252,7 @@ module _ (c : Content) (w : Writable c) where
   trace_back near =
       let at : ℕ = records_from setup in
       let long = length_trace c in
-      ap (read_from bytes) (sym header_back)
+      ap (read_from bytes) header_back
       ∙ ap₂ (λ (x y : List ℕ). with (given setup x) (read_records first (length bytes) y at)) supply_back records_back
       ∙ ap (with (given setup signatures))
       (all_back first first_right c.items (length bytes) at w.records (omega (arith, long)) (omega (arith, long, w.signatures)))

@@ -1,15 +1,12 @@
 -- Whole traces: a header, its signatures, and records to the end, read and written by the steps that the reader's and the
 -- writer's contracts cite. Document 01, "The trace form".
-use Rattle.std.specs.Prelude.{List, [], ◌∷◌, ◌++◌, cond, ◌⊎◌, ◌≡◌, ℕ, zero, suc, ◌+◌, length, take, drop, eqb}
+use Rattle.std.specs.Prelude.{List, [], ◌∷◌, ◌++◌, cond, Some, None, Ok, Err, ◌⊎◌, ◌≡◌, ℕ, zero, suc, ◌+◌, length, take, drop, eqb}
 use Rattle.rules.specs.Records.{Given, given}
 use Rattle.rules.specs.declared.Event.{Event}
 use Rattle.trace_form.specs.Form.{first}
 use Rattle.trace_form.specs.declared.Form.{Form}
-use Rattle.trace_read.specs.Reading.{header_at, supply_in, records_in, read_at, data_in, unread_after, place_after}
-use Rattle.trace_read.specs.declared.Header.{Header}
-use Rattle.trace_read.specs.declared.Header.TheVariants.{Sizes, Refused as NoHeader}
-use Rattle.trace_read.specs.declared.Found.{Found}
-use Rattle.trace_read.specs.declared.Found.TheVariants.{End, Refused, Record}
+use Rattle.rules.specs.Refusals.{number_of}
+use Rattle.trace_read.specs.Reading.{Header, Found, header_at, supply_in, records_in, read_at, data_in, unread_after, place_after}
 use Rattle.trace_write.specs.Writing.{Written, write_header, write_record}
 
 -- what a trace holds: the setup with the signatures, and each event with its data
@@ -42,11 +39,10 @@ also i (refused n) = refused n
 
 -- one step: what is found, and how to go on behind it
 abbrev pub read_on : (List ℕ → ℕ → Records) → List ℕ → ℕ → Found → Records
-read_on rest unread place End = all []
-read_on rest unread place (Refused n) = refused n
-read_on rest unread place (Record e start len next) =
-    let r = Record e start len next in
-    also (item e (data_in r unread)) (rest (unread_after r unread) (place_after r place))
+read_on rest unread place (Ok None) = all []
+read_on rest unread place (Err r) = refused (number_of r)
+read_on rest unread place (Ok (Some r)) =
+    also (item r.event (data_in (Some r) unread)) (rest (unread_after (Some r) unread) (place_after (Some r) place))
 
 -- at most one record more than n; a reading that came to its last step here would give 0, which is no refusal
 unfoldable pub read_records : Form → ℕ → List ℕ → ℕ → Records
@@ -58,10 +54,9 @@ with g (all items) = ended (content g items)
 with g (refused n) = stopped n
 
 abbrev pub read_from : List ℕ → Header → Reading
-read_from trace (NoHeader n) = stopped n
-read_from trace (Sizes s start) =
-    let h = Sizes s start in
-    with (given s (supply_in h trace)) (read_records first (length trace) (records_in h trace) start)
+read_from trace (Err r) = stopped (number_of r)
+read_from trace (Ok o) =
+    with (given o.setup (supply_in (Ok o) trace)) (read_records first (length trace) (records_in (Ok o) trace) o.records)
 
 unfoldable pub read_trace : List ℕ → Reading
 read_trace trace = read_from trace (header_at trace)

@@ -5,7 +5,8 @@ use mathlib.Core.List.{List}
 use Prim.Native.Nat.{ℕ, ◌+◌, ◌-◌, ◌≤◌, ◌<◌, ◌^◌}
 use native.Mathlib.Omega.{arith}
 use lib.ListN.{length, take}
-use borrow.Author.Tests.{lt-ltb, le-ltb, lt-leb, le-leb, eq-eqb, ne_eqb}
+use borrow.Author.Tests.{lt-ltb, lt-leb, le-leb, eq-eqb, ne_eqb}
+use Rattle.std.specs.Prelude.{None, Result, Ok, Err}
 use Rattle.trace_bits.specs.Packing.{split}
 use Rattle.rules.specs.Bytes.{number, all_of}
 use Rattle.rules.specs.Events.{kinds, data_length}
@@ -14,30 +15,21 @@ use Rattle.trace_form.specs.Form.{head_of, head_widths, values_at, fields_in, pa
 use Rattle.trace_form.specs.declared.Form.{Form}
 use Rattle.trace_form.specs.declared.Head.{Head}
 use Rattle.trace_form.specs.declared.Fields.{Fields}
-use Rattle.trace_read.specs.Reading.{kind_in, has_event, event_at, data_at, head_whole, record_of, read_at}
-use Rattle.trace_read.specs.declared.Found.{Found}
-use Rattle.trace_read.specs.declared.Found.TheVariants.{End, Refused, Record}
+use Rattle.rules.specs.declared.Refusal.{Refusal}
+use Rattle.rules.specs.declared.Refusal.TheVariants.{NoEvent}
+use Rattle.trace_read.specs.Reading.{Found, kind_in, has_event, event_at, record_at, data_at, head_whole, record_of, found_of, read_at}
+use Rattle.trace_read.specs.declared.Record.{Record}
 
 -- a record's data
 module _ (n place start : ℕ) (e : Event) (len : ℕ) (el : len ≡ data_length e) (h : start ≤ n) where
-  pub data_short : n - start < len → Refused 9 ≡ data_at n place start e
-  unfolding data_at
-  data_short g = simp (lt-leb (start + data_length e) n (omega (arith, el)))
-
-  pub data_whole : len ≤ n - start → Record e start len (place + start + len) ≡ data_at n place start e
+  pub data_whole : len ≤ n - start → Ok (record_at e start len (place + start + len)) ≡ data_at n place start e
   unfolding data_at
   data_whole g =
       simp (le-leb (start + data_length e) n (omega (arith, el)))
-      (ap (λ (x : ℕ). Record e start x (place + start + x)) el)
+      (ap (λ (x : ℕ). Ok (record_at e start x (place + start + x))) el)
 
 -- a record's head; h is the head that the code worked out, n the number that its bytes spell
 module _ (f : Form) (unread : List ℕ) (place k : ℕ) (h : Head) (eh : h ≡ head_of f k) where
-  pub head_short : length unread < h.bytes → Refused 9 ≡ record_of f k unread place
-  unfolding record_of head_whole all_of
-  head_short g =
-      let short : length unread < (head_of f k).bytes = subst (λ (x : Head). length unread < x.bytes) eh g in
-      simp (lt-leb (head_of f k).bytes (length unread) short)
-
   module _ (g : h.bytes ≤ length unread) (n : ℕ) (en : n ≡ number (take h.bytes unread)) where
     long : (head_of f k).bytes ≤ length unread
     long = subst (λ (x : Head). x.bytes ≤ length unread) eh g
@@ -46,16 +38,7 @@ module _ (f : Form) (unread : List ℕ) (place k : ℕ) (h : Head) (eh : h ≡ h
     unfolding values_at
     values = ap (split (head_widths h)) en ∙ ap (λ (x : Head). values_at x unread) eh
 
-    pub padding_set : (x : ℕ) → x ≡ padding_in (split (head_widths h) n) → (x ≡ 0 → ⊥) → Refused 9 ≡ record_of f k unread place
-    unfolding record_of head_whole all_of
-    padding_set x ex ne =
-        let set : padding_in (values_at (head_of f k) unread) ≡ 0 → ⊥ = λ z. ne (ex ∙ ap padding_in values ∙ z) in
-        simp (
-          le-leb (head_of f k).bytes (length unread) long,
-          ne_eqb (padding_in (values_at (head_of f k) unread)) 0 set,
-        )
-
-    pub head_read : (x : ℕ) (v : Fields) (e : Event) (r : Found) → x ≡ padding_in (split (head_widths h) n) → x ≡ 0
+    pub head_read : (x : ℕ) (v : Fields) (e : Event) (r : Result Record Refusal) → x ≡ padding_in (split (head_widths h) n) → x ≡ 0
         → v ≡ fields_in (split (head_widths h) n) → e ≡ event_of k v → r ≡ data_at (length unread) place h.bytes e
         → r ≡ record_of f k unread place
     unfolding record_of head_whole all_of event_at
@@ -71,30 +54,18 @@ module _ (f : Form) (unread : List ℕ) (place k : ℕ) (h : Head) (eh : h ≡ h
 
 -- what stands at a place
 module _ (f : Form) (unread : List ℕ) (place : ℕ) where
-  pub read_far : 2 ^ 64 ≤ place + length unread → Refused 10 ≡ read_at f unread place
-  unfolding read_at
-  read_far h = simp (le-leb (2 ^ 64) (place + length unread) h)
-
   module _ (near : place + length unread < 2 ^ 64) where
-    pub read_end : length unread ≡ 0 → End ≡ read_at f unread place
+    pub read_end : length unread ≡ 0 → Ok None ≡ read_at f unread place
     unfolding read_at
     read_end z = simp (lt-leb (2 ^ 64) (place + length unread) near, eq-eqb (length unread) 0 z)
 
     module _ (some : length unread ≡ 0 → ⊥) (k : ℕ) (ek : k ≡ kind_in f unread) where
-      read_kind : (r : Found) → r ≡ cond (has_event f k) (record_of f k unread place) (Refused 1) → r ≡ read_at f unread place
+      read_kind : (r : Found) → r ≡ cond (has_event f k) (found_of (record_of f k unread place)) (Err NoEvent) → r ≡ read_at f unread place
       unfolding read_at
       read_kind r er =
           simp (lt-leb (2 ^ 64) (place + length unread) near, ne_eqb (length unread) 0 some)
-          (er ∙ ap (λ (x : ℕ). cond (has_event f x) (record_of f x unread place) (Refused 1)) ek)
+          (er ∙ ap (λ (x : ℕ). cond (has_event f x) (found_of (record_of f x unread place)) (Err NoEvent)) ek)
 
-      pub read_beyond : f.kinds ≤ k → Refused 1 ≡ read_at f unread place
-      unfolding has_event all_of
-      read_beyond h = read_kind (Refused 1) (simp (le-ltb k f.kinds h))
-
-      pub read_none : k < f.kinds → kinds ≤ k → Refused 1 ≡ read_at f unread place
-      unfolding has_event all_of
-      read_none h g = read_kind (Refused 1) (simp (lt-ltb k f.kinds h, le-ltb k kinds g))
-
-      pub read_record : (r : Found) → k < f.kinds → k < kinds → r ≡ record_of f k unread place → r ≡ read_at f unread place
+      pub read_record : (r : Found) → k < f.kinds → k < kinds → r ≡ found_of (record_of f k unread place) → r ≡ read_at f unread place
       unfolding has_event all_of
       read_record r h g er = read_kind r (simp (lt-ltb k f.kinds h, lt-ltb k kinds g) er)

@@ -4,45 +4,29 @@
 
 ghost use Rattle.std.specs.Prelude.{◌≡◌, ◌+◌, ◌-◌, ◌/◌, ◌^◌, ◌≤◌, ◌<◌, length, take, drop};
 ghost use Rattle.trace_bits.specs.Packing.{split};
-ghost use Rattle.trace_form.specs.Form.{Right, first, event_of};
+ghost use Rattle.trace_form.specs.Form.{Right, first};
 ghost use Rattle.trace_form.specs.Header.{header_widths, setup_in, spare_in};
 ghost use Rattle.trace_read.specs.Promises.{Reads, Unread, Finds, Behind};
-ghost use Rattle.trace_read.specs.Reading.{sizes_at, header_at, supply_in, records_in, Owns, data_at, record_of, read_at};
+ghost use Rattle.trace_read.specs.Reading.{sizes_at, header_at, supply_in, records_in, data_at, record_of, read_at};
 ghost use Rattle.trace_read.specs.Reading.{data_in, unread_after, place_after};
 
-use rules::{Answer, Event, Setup};
-use trace_form::{Fields, Form};
+use rules::{Event, Refusal, Setup};
+use trace_form::Form;
 
-// What a trace's header says.
+// What a trace's header says: the setup, and the place where the records start.
 #[derive(Clone, Copy)]
-pub enum Header {
-    // The setup, and the place where the records start.
-    Sizes(Setup, usize),
-    // The number that says why it can't be read.
-    Refused(u8),
+pub struct Opened {
+    pub setup: Setup,
+    pub records: usize,
 }
 
-// What stands at a place of a trace.
+// A record: its event, its data, which is len of the unread bytes from start on, and the place behind it.
 #[derive(Clone, Copy)]
-pub enum Found {
-    // No bytes are left.
-    End,
-    // No record; the number says why.
-    Refused(u8),
-    // A record: its event, its data, which is len of the unread bytes from start on, and the place behind it.
-    Record {
-        event: Event,
-        start: usize,
-        len: usize,
-        next: usize,
-    },
-}
-
-// Whose events a record's kind makes.
-#[derive(Clone, Copy)]
-pub enum Owner {
-    Kernel,
-    Application,
+pub struct Record {
+    pub event: Event,
+    pub start: usize,
+    pub len: usize,
+    pub next: usize,
 }
 
 fn spare_in(n: usize) -> usize
@@ -70,66 +54,61 @@ fn setup_in(n: usize) -> Setup
 }
 
 // What the header's 48 bits say, whether or not the signatures are whole.
-pub fn read_sizes(trace: &[u8]) -> Header
+#[tactic(auto, unfolding(crate::proofs::Opening::the_sizes))]
+pub fn read_sizes(trace: &[u8]) -> Result<Opened, Refusal>
     ensures { result ≡ sizes_at trace.now }
 {
     if trace.len() < Form::HEADER {
-        return Header::Refused(Answer::CUT_SHORT);
+        return Err(Refusal::CutShort);
     }
     let n = numbers::load(trace, Form::HEADER) as usize;
     if spare_in(n) != 0 {
-        return Header::Refused(Answer::CUT_SHORT);
+        return Err(Refusal::CutShort);
     }
     let setup = setup_in(n);
-    Header::Sizes(setup, Form::HEADER + setup.signatures * setup.size)
+    Ok(Opened {
+        setup,
+        records: Form::HEADER + setup.signatures * setup.size,
+    })
 }
 
 // What the header says, where its signatures are whole too.
 #[tactic(auto, unfolding(crate::specs::Reading::header_at))]
-pub fn read_header(trace: &[u8]) -> Header
+pub fn read_header(trace: &[u8]) -> Result<Opened, Refusal>
     ensures { result ≡ header_at trace.now }
 {
-    match read_sizes(trace) {
-        Header::Sizes(setup, records) => {
-            if trace.len() < records {
-                return Header::Refused(Answer::CUT_SHORT);
-            }
-            Header::Sizes(setup, records)
-        }
-        Header::Refused(number) => Header::Refused(number),
+    let opened = read_sizes(trace)?;
+    if trace.len() < opened.records {
+        return Err(Refusal::CutShort);
     }
+    Ok(opened)
 }
 
 // The part of a slice from start on, len bytes of it or as many as there are.
+#[tactic(auto, using(std::proofs::lemmas::List::take_min))]
 fn part(bytes: &[u8], start: usize, len: usize) -> &[u8]
     ensures { result.now ≡ take len (drop start bytes.now) }
 {
     let rest = behind(bytes, start);
-    if len < rest.len() {
-        return &rest[..len];
-    }
-    rest
+    &rest[..len.min(rest.len())]
 }
 
 // The part of a slice behind its first n bytes, or none where it has no more.
+#[tactic(auto, using(std::proofs::lemmas::List::drop_min))]
 fn behind(bytes: &[u8], n: usize) -> &[u8]
     ensures { result.now ≡ drop n bytes.now }
 {
-    if n < bytes.len() {
-        return &bytes[n..];
-    }
-    let end = bytes.len();
-    &bytes[end..]
+    &bytes[n.min(bytes.len())..]
 }
 
 // The part of a trace that is its supply; none of it where the header is refused.
-#[tactic(auto, using(crate::proofs::Headers::opened))]
+#[tactic(auto, using(crate::proofs::Headers::records_start, crate::proofs::Headers::starts_past))]
 pub fn supply(trace: &[u8]) -> &[u8]
     ensures { result.now ≡ supply_in (header_at trace.now) trace.now }
 {
     match read_header(trace) {
-        Header::Sizes(_, start) => part(trace, Form::HEADER, start - Form::HEADER),
-        Header::Refused(_) => part(trace, 0, 0),
+        Ok(opened) => part(trace, Form::HEADER, opened.records - Form::HEADER),
+        Err(_) => &[],
     }
 }
 
@@ -138,13 +117,10 @@ pub fn records(trace: &[u8]) -> &[u8]
     ensures { result.now ≡ records_in (header_at trace.now) trace.now }
 {
     match read_header(trace) {
-        Header::Sizes(_, start) => behind(trace, start),
-        Header::Refused(_) => part(trace, 0, 0),
+        Ok(opened) => behind(trace, opened.records),
+        Err(_) => &[],
     }
 }
-
-// The last place; a byte there could not be counted.
-const LAST_PLACE: usize = 18446744073709551615;
 
 fn kind_in(form: Form, byte: u8) -> usize
     requires { Right form }
@@ -153,133 +129,109 @@ fn kind_in(form: Form, byte: u8) -> usize
     (byte as usize) >> (8 - form.kind)
 }
 
-fn event_of(owner: Owner, kind: usize, v: Fields) -> Event
-    requires { Owns owner kind }
-    ensures { result ≡ event_of kind v }
-{
-    match owner {
-        Owner::Kernel => trace_form::kernel_event(kind, v),
-        Owner::Application => trace_form::application_event(kind, v),
-    }
-}
-
 // Of a record whose head is start of n bytes: whole with its data, or cut short.
 #[tactic(auto, unfolding(crate::specs::Reading::data_at))]
-fn data_at(n: usize, place: usize, start: usize, event: Event) -> Found
+fn data_at(n: usize, place: usize, start: usize, event: Event) -> Result<Record, Refusal>
     requires { (start ≤ n) × (place + n < 2 ^ 64) }
     ensures { result ≡ data_at n place start event }
 {
     let len = event.data_length();
     if n - start < len {
-        return Found::Refused(Answer::CUT_SHORT);
+        return Err(Refusal::CutShort);
     }
     let next = place + start + len;
-    Found::Record {
+    Ok(Record {
         event,
         start,
         len,
         next,
-    }
+    })
 }
 
 // The record of that kind, where it is whole and has zero bits for padding.
-fn record_of(form: Form, unread: &[u8], place: usize, kind: usize, owner: Owner) -> Found
-    requires { Right form × (place + length unread.now < 2 ^ 64) × Owns owner kind }
+#[tactic(auto, using(trace_form::proofs::Heads::laid_at), unfolding(crate::proofs::Opening::the_record))]
+fn record_of(form: Form, unread: &[u8], place: usize, kind: usize) -> Result<Record, Refusal>
+    requires { Right form × (place + length unread.now < 2 ^ 64) × (kind ≤ 13) }
     ensures { result ≡ record_of form kind unread.now place }
 {
     let head = form.head(kind);
     let bytes = head.bytes;
     if unread.len() < bytes {
-        return Found::Refused(Answer::CUT_SHORT);
+        return Err(Refusal::CutShort);
     }
     let n = numbers::load(unread, bytes) as usize;
     if head.padding_in(n) != 0 {
-        return Found::Refused(Answer::CUT_SHORT);
+        return Err(Refusal::CutShort);
     }
-    let event = event_of(owner, kind, head.fields_in(n));
+    let event = trace_form::event_of(kind, head.fields_in(n));
     data_at(unread.len(), place, bytes, event)
 }
 
 // What the unread bytes begin with, in any form; place is theirs in the trace.
-fn read_in(form: Form, unread: &[u8], place: usize) -> Found
+#[tactic(auto, unfolding(crate::proofs::Opening::the_reading))]
+fn read_in(form: Form, unread: &[u8], place: usize) -> Result<Option<Record>, Refusal>
     requires { Right form }
     ensures { result ≡ read_at form unread.now place }
 {
-    if LAST_PLACE - place < unread.len() {
-        return Found::Refused(Answer::NOT_ACCEPTABLE);
+    // A byte at the last place could not be counted.
+    if usize::MAX - place < unread.len() {
+        return Err(Refusal::NotAcceptable);
     }
-    if unread.len() == 0 {
-        return Found::End;
+    if unread.is_empty() {
+        return Ok(None);
     }
     let kind = kind_in(form, unread[0]);
-    if form.kinds <= kind {
-        return Found::Refused(Answer::NO_EVENT);
+    if kind >= form.kinds {
+        return Err(Refusal::NoEvent);
     }
-    let owner = match kind {
-        0..=6 => Owner::Kernel,
-        7..=13 => Owner::Application,
-        _ => return Found::Refused(Answer::NO_EVENT),
-    };
-    record_of(form, unread, place, kind, owner)
+    match kind {
+        // the kernel's events, and the application's
+        0..=6 | 7..=13 => record_of(form, unread, place, kind).map(Some),
+        _ => Err(Refusal::NoEvent),
+    }
 }
 
-// What the unread bytes begin with; place is theirs in the trace. The reader's work, on a plain slice and a number.
-pub fn record_at(unread: &[u8], place: usize) -> Found
+// What the unread bytes begin with; place is theirs in the trace. The reader's work, on a plain slice and a number. Where no
+// bytes are left, it is no record.
+pub fn record_at(unread: &[u8], place: usize) -> Result<Option<Record>, Refusal>
     ensures { result ≡ read_at first unread.now place }
 {
     read_in(Form::FIRST, unread, place)
 }
 
 // The part of the unread bytes that is the data of the record found at their front; none where none was found.
-pub fn data_of(unread: &[u8], found: Found) -> &[u8]
+pub fn data_of(unread: &[u8], found: Option<Record>) -> &[u8]
     ensures { result.now ≡ data_in found unread.now }
 {
     match found {
-        Found::End => part(unread, 0, 0),
-        Found::Refused(_) => part(unread, 0, 0),
-        Found::Record {
-            event: _,
-            start,
-            len,
-            next: _,
-        } => part(unread, start, len),
+        Some(record) => part(unread, record.start, record.len),
+        None => &[],
     }
 }
 
 // What is unread behind the record found; all of it where none was found.
-pub fn unread_after(unread: &[u8], found: Found) -> &[u8]
+pub fn unread_after(unread: &[u8], found: Option<Record>) -> &[u8]
     ensures { result.now ≡ unread_after found unread.now }
 {
     match found {
-        Found::End => behind(unread, 0),
-        Found::Refused(_) => behind(unread, 0),
-        Found::Record {
-            event: _,
-            start,
-            len,
-            next: _,
-        } => behind(behind(unread, start), len),
+        Some(record) => behind(behind(unread, record.start), record.len),
+        None => unread,
     }
 }
 
 // The place behind the record found; the same place where none was found.
-pub fn place_after(place: usize, found: Found) -> usize
+pub fn place_after(place: usize, found: Option<Record>) -> usize
     ensures { result ≡ place_after found place }
 {
     match found {
-        Found::End => place,
-        Found::Refused(_) => place,
-        Found::Record {
-            event: _,
-            start: _,
-            len: _,
-            next,
-        } => next,
+        Some(record) => record.next,
+        None => place,
     }
 }
 
 // The reader: the bytes of a trace that are still unread, and their place. Its functions take it apart and leave the work
-// to those above, on a plain slice and a number.
+// to those above, on a plain slice and a number. It is no Iterator: `next` looks and `advance` moves, since a caller works on a
+// record's data before it goes on, and a refused read stays where it is.
 #[derive(Clone, Copy)]
 pub struct Reader<'a> {
     pub unread: &'a [u8],
@@ -301,14 +253,14 @@ impl<'a> Reader<'a> {
     }
 
     // What is next.
-    pub fn next(self) -> Found
+    pub fn next(self) -> Result<Option<Record>, Refusal>
         ensures { Finds self.entry.unread.now self.entry.place result }
     {
         record_at(self.unread, self.place)
     }
 
-    // The reader behind what was found; at the same place where that was no record.
-    pub fn advance(self, found: Found) -> Reader<'a>
+    // The reader behind the record found; at the same place where none was found.
+    pub fn advance(self, found: Option<Record>) -> Reader<'a>
         ensures { Behind self.entry found result }
     {
         let place = place_after(self.place, found);
@@ -320,7 +272,7 @@ impl<'a> Reader<'a> {
 }
 
 // What a reader at that place of a trace finds next: for whoever has no reader.
-pub fn read_record(unread: &[u8], place: usize) -> Found
+pub fn read_record(unread: &[u8], place: usize) -> Result<Option<Record>, Refusal>
     ensures { Finds unread.now place result }
 {
     Reader::new(unread, place).next()

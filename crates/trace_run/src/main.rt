@@ -7,45 +7,58 @@ ghost use Rattle.listing.specs.Opening.{opening_at};
 ghost use Rattle.listing.specs.Listing.{answer_room};
 ghost use Rattle.listing.specs.Filling.{line_room};
 
+use core_answer::Lent;
 use rules::Setup;
 use std::io;
 use std::io::Read;
-use trace_read::Header;
+use trace_read::Opened;
 
 // Fills buf from the input, to its end or to that of the input, and returns how many bytes were read. A read may give less than was
-// asked for.
+// asked for. std has no method for it: read_exact fails at the input's end, and read_to_end fills a Vec, for which there is no heap.
 fn read_all(input: &mut impl Read, buf: &mut [u8]) -> io::Result<usize>
-    ensures { IfOk result (λ n. n ≤ length buf.new) }
+    ensures read { IfOk result (λ n. n ≤ length buf.new) }
+    ensures long { length buf.new ≡ length buf.old }
 {
-    let mut count: usize = 0;
+    let mut count = 0;
     while count < buf.len() {
-        let more = input.read(&mut buf[count..])?;
-        if more == 0 {
-            return Ok(count);
+        match input.read(&mut buf[count..])? {
+            0 => break,
+            more => count += more,
         }
-        count += more;
     }
     Ok(count)
 }
 
-// Writes the lines from a place of the trace on, in large pieces, until the trace is at its end or the output is closed.
+// Writes the lines of the trace's records, in large pieces, until the trace is at its end or the output is closed.
 fn write_lines(
     rt: &impl Print,
     trace: &[u8],
-    setup: Setup,
-    place: usize,
-    tables: &mut [u16],
-    saved: &mut [u64],
-    frames: &mut [u8],
-    store: &mut [u8],
-    answer: &mut [u8],
+    opened: Opened,
+    lent: &mut Lent<'_>,
     out: &mut [u8],
 ) -> io::Result<()>
-    requires { line_room (length answer.old) ≤ length out.old }
+    requires { line_room (length lent.old.answer.now) ≤ length out.old }
 {
-    let mut run = listing::start(trace, setup, place, tables, saved, frames, store);
+    let mut run = listing::start(
+        trace,
+        opened.setup,
+        opened.records,
+        lent.tables,
+        lent.saved,
+        lent.frames,
+        lent.store,
+    );
     while run.place < trace.len() {
-        let filled = listing::fill(run, trace, tables, saved, frames, store, answer, out);
+        let filled = listing::fill(
+            run,
+            trace,
+            lent.tables,
+            lent.saved,
+            lent.frames,
+            lent.store,
+            lent.answer,
+            out,
+        );
         rt.write_all(&out[..filled.count])?;
         run = filled.run;
     }
@@ -64,44 +77,35 @@ const ANSWER: usize = 4096;
 const ROOM: usize = 65536;
 
 // The listing of a trace that trace-run takes: of the lent words and bytes as many as the setup asks for are handed on.
-fn list_records(
-    rt: &impl Print,
-    trace: &[u8],
-    setup: Setup,
-    place: usize,
-    out: &mut [u8],
-) -> io::Result<()>
-    requires { (opening_at trace.now ≡ Header.Sizes setup place) × (line_room answer_room ≤ length out.old) }
+fn list_records(rt: &impl Print, trace: &[u8], opened: Opened, out: &mut [u8]) -> io::Result<()>
+    requires { (opening_at trace.now ≡ Ok opened) × (line_room answer_room ≤ length out.old) }
 {
     let mut tables = [0u16; core_tables::WORDS];
     let mut saved = [0u64; SAVED];
     let mut frames = [0u8; LIMIT];
     let mut store = [0u8; LIMIT];
     let mut answer = [0u8; ANSWER];
-    let n = 8 * setup.contexts;
-    let f = setup.frames * setup.size;
-    let s = setup.domains * setup.pages * setup.size;
-    write_lines(
-        rt,
-        trace,
-        setup,
-        place,
-        &mut tables,
-        &mut saved[..n],
-        &mut frames[..f],
-        &mut store[..s],
-        &mut answer,
-        out,
-    )
+    let setup = opened.setup;
+    let saved_length = 8 * setup.contexts;
+    let frames_length = setup.frames * setup.size;
+    let store_length = setup.domains * setup.pages * setup.size;
+    let mut lent = Lent {
+        tables: &mut tables,
+        saved: &mut saved[..saved_length],
+        frames: &mut frames[..frames_length],
+        store: &mut store[..store_length],
+        answer: &mut answer,
+    };
+    write_lines(rt, trace, opened, &mut lent, out)
 }
 
 // The listing of a trace.
 fn list(rt: &impl Print, trace: &[u8]) -> io::Result<()> {
     let mut out = [0u8; ROOM];
     match listing::opening(trace) {
-        Header::Sizes(setup, place) => list_records(rt, trace, setup, place, &mut out),
-        Header::Refused(number) => {
-            let count = listing::refusal(number, &mut out);
+        Ok(opened) => list_records(rt, trace, opened, &mut out),
+        Err(refusal) => {
+            let count = listing::refusal(refusal.into(), &mut out);
             rt.write_all(&out[..count])
         }
     }

@@ -12,6 +12,11 @@ use Rattle.rules.specs.Bytes.{overlay, big_endian}
 use Rattle.rules.specs.Events.{kind_of, data_length}
 use Rattle.rules.proofs.Parts.{overlay_is}
 use Rattle.rules.proofs.Rows.{kind_below}
+use Rattle.std.specs.Prelude.{Ok, Err}
+use Rattle.rules.specs.Refusals.{number_of}
+use Rattle.rules.specs.declared.Refusal.{Refusal}
+use Rattle.rules.specs.declared.Refusal.TheVariants.{NoEvent, OutOfRange, BadLength, WrongCondition, NotMapped, NoSignature}
+use Rattle.rules.specs.declared.Refusal.TheVariants.{Stopped, NotUnveiled, CutShort, NotAcceptable, NoRoom}
 use Rattle.rules.specs.declared.Setup.{Setup}
 use Rattle.rules.specs.declared.Event.{Event}
 use Rattle.trace_form.specs.Form.{Right, head_of, head_widths, values, fields_of, head_bytes}
@@ -25,7 +30,7 @@ use Rattle.trace_form.specs.declared.Fields.{Fields}
 use Rattle.trace_form.proofs.Heads.{laid, laid_at, length_head}
 use Rattle.trace_form.proofs.Events.{event_within}
 use Rattle.trace_form.proofs.Headers.{length_header}
-use Rattle.trace_write.specs.Writing.{Written, refused, written, header_refusal, write_header, record_bytes, refusal_of}
+use Rattle.trace_write.specs.Writing.{left, written, header_refusal, write_header, record_bytes, refusal_of}
 use Rattle.trace_write.specs.Writing.{record_refusal, write_record}
 use Rattle.trace_write.proofs.Refusals.{header_ready, RecordReady, record_ready}
 
@@ -50,20 +55,32 @@ put_over hd others out stored mid k n hl fits es em en =
     ∙ ap (λ (x : ℕ). (hd ++ others) ++ drop x out) (sym len)
     ∙ sym (overlay_front (hd ++ others) out (omega (arith, len)))
 
+-- a refusal has a number
+some_number : (r : Refusal) → number_of r ≡ 0 → ⊥
+some_number NoEvent e = omega (arith, e)
+some_number OutOfRange e = omega (arith, e)
+some_number BadLength e = omega (arith, e)
+some_number WrongCondition e = omega (arith, e)
+some_number NotMapped e = omega (arith, e)
+some_number NoSignature e = omega (arith, e)
+some_number Stopped e = omega (arith, e)
+some_number NotUnveiled e = omega (arith, e)
+some_number CutShort e = omega (arith, e)
+some_number NotAcceptable e = omega (arith, e)
+some_number NoRoom e = omega (arith, e)
+
 -- refused, or done
-pub was_refused : (n m : ℕ) (bytes out : List ℕ) → n ≡ m → (n ≡ 0 → ⊥)
-    → refused n out ≡ written m bytes out
+pub was_refused : (r : Refusal) (m : ℕ) (bytes out : List ℕ) → number_of r ≡ m → left (Err r) out ≡ written m bytes out
 unfolding written
-was_refused n m bytes out e ne =
-    let is : refused n out ≡ written n bytes out = simp (ne_eqb n 0 ne) in
+was_refused r m bytes out e =
+    let is : left (Err r) out ≡ written (number_of r) bytes out = simp (ne_eqb (number_of r) 0 (some_number r)) in
     is ∙ ap (λ (x : ℕ). written x bytes out) e
 
 pub was_done : (m count : ℕ) (bytes out after : List ℕ) → 0 ≡ m → count ≡ length bytes → after ≡ overlay 0 bytes out
-    → ◌≡◌ {A = Written} (record { number = 0; count = count; out = after }) (written m bytes out)
+    → left (Ok count) after ≡ written m bytes out
 unfolding written
 was_done m count bytes out after e ec ea =
-    let is : ◌≡◌ {A = Written} (record { number = 0; count = count; out = after }) (written 0 bytes out) =
-    λ i. record { number = 0; count = ec i; out = ea i } in
+    let is : left (Ok count) after ≡ written 0 bytes out = λ i. record { number = 0; count = ec i; out = ea i } in
     is ∙ ap (λ (x : ℕ). written x bytes out) e
 
 -- a header, written
@@ -71,21 +88,22 @@ pub length_header_of : (s : Setup) (supply : List ℕ) → length (header_of s s
 unfolding header_of
 length_header_of s supply = length-append (header_bytes s) supply ∙ ap (λ (x : ℕ). x + length supply) (length_header s)
 
-module _ (s : Setup) (supply out : List ℕ) (n : ℕ) (en : n ≡ header_refusal s supply (length out)) where
-  pub header_refused : (n ≡ 0 → ⊥) → refused n out ≡ write_header s supply out
+module _ (s : Setup) (supply out : List ℕ) where
+  pub header_refused : (r : Refusal) → number_of r ≡ header_refusal s supply (length out)
+      → left (Err r) out ≡ write_header s supply out
   unfolding write_header
-  header_refused ne = was_refused n (header_refusal s supply (length out)) (header_of s supply) out en ne
+  header_refused r e = was_refused r (header_refusal s supply (length out)) (header_of s supply) out e
 
-  module _ (z : n ≡ 0) where
+  module _ (z : 0 ≡ header_refusal s supply (length out)) where
     pub header_fits : Limited s × (header_length + length supply ≤ length out)
-    header_fits = let r = header_ready s supply (length out) (sym en ∙ z) in (limited s r.sizes, r.enough)
+    header_fits = let r = header_ready s supply (length out) (sym z) in (limited s r.sizes, r.enough)
 
     pub header_written : (m count : ℕ) (after : List ℕ) → m ≡ join 0 header_widths (setup_values s)
         → count ≡ header_length + length supply → after ≡ overlay 0 (big_endian header_length m ++ supply) out
-        → ◌≡◌ {A = Written} (record { number = 0; count = count; out = after }) (write_header s supply out)
+        → left (Ok count) after ≡ write_header s supply out
     unfolding write_header header_of header_bytes
     header_written m count after em ec ea =
-        was_done (header_refusal s supply (length out)) count (header_of s supply) out after (sym z ∙ en)
+        was_done (header_refusal s supply (length out)) count (header_of s supply) out after z
         (ec ∙ sym (length_header_of s supply))
         (ea ∙ ap (λ (x : ℕ). overlay 0 (big_endian header_length x ++ supply) out) em)
 
@@ -119,8 +137,6 @@ pub record Prepared (f : Form) (e : Event) (new out : List ℕ) : Type 0 where
   pub fields_is : fields ≡ fields_of e
   pub want : ℕ
   pub want_is : want ≡ data_length e
-  pub number : ℕ
-  pub number_is : number ≡ refusal_of head fields want (length new) (length out)
 
 module _ {f : Form} {e : Event} {new out : List ℕ} (p : Prepared f e new out) where
   abbrev the_head : Head
@@ -129,24 +145,25 @@ module _ {f : Form} {e : Event} {new out : List ℕ} (p : Prepared f e new out) 
   head_of_event : p.head ≡ the_head
   head_of_event = p.head_is ∙ ap (head_of f) p.kind_is
 
-  number_of_event : p.number ≡ refusal_of the_head (fields_of e) (data_length e) (length new) (length out)
-  number_of_event =
-      p.number_is
-      ∙ ap₂ (λ (x : Head) (y : Fields). refusal_of x y p.want (length new) (length out)) head_of_event p.fields_is
+  -- the refusal that the checks give
+  abbrev refusal : ℕ
+  refusal = refusal_of p.head p.fields p.want (length new) (length out)
+
+  refusal_of_event : refusal ≡ record_refusal f e new (length out)
+  unfolding record_refusal
+  refusal_of_event =
+      ap₂ (λ (x : Head) (y : Fields). refusal_of x y p.want (length new) (length out)) head_of_event p.fields_is
       ∙ ap (λ (x : ℕ). refusal_of the_head (fields_of e) x (length new) (length out)) p.want_is
 
-  refusal_of_event : p.number ≡ record_refusal f e new (length out)
-  unfolding record_refusal
-  refusal_of_event = number_of_event
-
-  pub record_refused : (p.number ≡ 0 → ⊥) → refused p.number out ≡ write_record f e new out
+  pub record_refused : (r : Refusal) → number_of r ≡ refusal → left (Err r) out ≡ write_record f e new out
   unfolding write_record
-  record_refused ne =
-      was_refused p.number (record_refusal f e new (length out)) (record_bytes f e new) out refusal_of_event ne
+  record_refused r er =
+      was_refused r (record_refusal f e new (length out)) (record_bytes f e new) out (er ∙ refusal_of_event)
 
-  module _ (z : p.number ≡ 0) where
+  module _ (z : 0 ≡ refusal) where
     ready : RecordReady the_head (fields_of e) (data_length e) (length new) (length out)
-    ready = record_ready the_head (fields_of e) (data_length e) (length new) (length out) (sym number_of_event ∙ z)
+    unfolding record_refusal
+    ready = record_ready the_head (fields_of e) (data_length e) (length new) (length out) (sym (z ∙ refusal_of_event))
 
     pub record_fits : (Laid p.head × Within p.head.widths p.fields × (p.kind < 2 ^ p.head.kind))
         × (p.head.bytes + length new ≤ length out)
@@ -162,13 +179,13 @@ module _ {f : Form} {e : Event} {new out : List ℕ} (p : Prepared f e new out) 
 
     pub record_written : (m count : ℕ) (after : List ℕ) → m ≡ join 0 (head_widths p.head) (values p.kind p.fields)
         → count ≡ p.head.bytes + length new → after ≡ overlay 0 (big_endian p.head.bytes m ++ new) out
-        → ◌≡◌ {A = Written} (record { number = 0; count = count; out = after }) (write_record f e new out)
+        → left (Ok count) after ≡ write_record f e new out
     unfolding write_record record_bytes head_bytes
     record_written m count after em ec ea =
         let bytes : big_endian p.head.bytes m ≡ head_bytes the_head (kind_of e) (fields_of e) =
         ap (big_endian p.head.bytes) em
         ∙ ap (λ (x : Head). head_bytes x p.kind p.fields) head_of_event
         ∙ ap₂ (λ (x : ℕ) (y : Fields). head_bytes the_head x y) p.kind_is p.fields_is in
-        was_done (record_refusal f e new (length out)) count (record_bytes f e new) out after (sym z ∙ refusal_of_event)
+        was_done (record_refusal f e new (length out)) count (record_bytes f e new) out after (z ∙ refusal_of_event)
         (ec ∙ ap (λ (x : Head). x.bytes + length new) head_of_event ∙ sym (length_record f e new p.right))
         (ea ∙ ap (λ (x : List ℕ). overlay 0 (x ++ new) out) bytes)

@@ -1,17 +1,15 @@
--- Which number the writer's checks give, by the tests that the code made; and what is known where it is 0.
-use mathlib.Core.Path.{◌≡◌, refl, subst}
-use mathlib.Core.Bool.{Bool, true, false, not}
+-- What is known where the writer's checks refuse nothing.
+use mathlib.Core.Path.{◌≡◌}
+use mathlib.Core.Bool.{Bool, not}
 use mathlib.Core.List.{List, [], ◌∷◌}
-use Prim.Native.Nat.{ℕ, ◌+◌, ◌/◌, ◌^◌, ◌≤◌, ◌<◌}
-use native.Mathlib.Nat.{div-eq_of_lt, div-lt_iff_lt-mul, one-mul, not-le_of_lt}
+use Prim.Native.Nat.{ℕ, ◌+◌, ◌^◌, ◌≤◌, ◌<◌}
 use native.Mathlib.Omega.{arith}
 use lib.Dec.{T, eqb, leb, ltb, ltb→lt, leb→le, eqb→eq}
 use lib.ListN.{length}
-use lib.Pow.{pow_pos}
-use borrow.Author.Tests.{eq-eqb, ne_eqb, lt-ltb, le-ltb, ltb-true, ltb-false, not-false}
+use borrow.Author.Tests.{ltb-false, not-false}
 use Rattle.rules.specs.Bytes.{all_of}
 use Rattle.rules.specs.Sizes.{setup_in_range, supply_right}
-use Rattle.rules.specs.Answers.{check, first_of}
+use Rattle.rules.specs.Answers.{check}
 use Rattle.rules.proofs.Facts.{each, passed}
 use Rattle.rules.specs.declared.Setup.{Setup}
 use Rattle.rules.specs.declared.Span.{Span}
@@ -21,41 +19,6 @@ use Rattle.trace_form.specs.declared.Head.{Head}
 use Rattle.trace_form.specs.declared.Fields.{Fields}
 use Rattle.rules.proofs.Checks.{first_passed}
 use Rattle.trace_write.specs.Writing.{header_refusal, numbers_fit, span_fits, max_off, max_len, refusal_of}
-
--- a number fits w bits exactly if nothing is left when they are shifted out
-pub fits_test : (v w : ℕ) → eqb (v / 2 ^ w) 0 ≡ ltb v (2 ^ w)
-fits_test v w = go (ltb v (2 ^ w)) refl
-  where
-    go : (b : Bool) → ltb v (2 ^ w) ≡ b → eqb (v / 2 ^ w) 0 ≡ b
-    go true t = eq-eqb (v / 2 ^ w) 0 (div-eq_of_lt (ltb-true v (2 ^ w) t))
-    go false t =
-        ne_eqb (v / 2 ^ w) 0
-        (λ e. not-le_of_lt
-        (subst (λ (x : ℕ). v < x) (one-mul (2 ^ w))
-        ((div-lt_iff_lt-mul {k = 2 ^ w} {x = v} {y = 1} (pow_pos w)).0 (omega (arith, e))))
-        (ltb-false v (2 ^ w) t))
-
--- a header
-module _ (s : Setup) (supply : List ℕ) (room : ℕ) where
-  pub header_range : setup_in_range s ≡ false → 10 ≡ header_refusal s supply room
-  unfolding header_refusal first_of check all_of
-  header_range out = simp out
-
-  module _ (within : setup_in_range s ≡ true) where
-    pub header_supply : (length supply ≡ supply_length s → ⊥) → 10 ≡ header_refusal s supply room
-    unfolding header_refusal first_of check all_of supply_right
-    header_supply ne = simp (within, ne_eqb (length supply) (supply_length s) ne)
-
-    module _ (whole : length supply ≡ supply_length s) where
-      pub header_room : room < header_length + length supply → 11 ≡ header_refusal s supply room
-      unfolding header_refusal first_of check all_of supply_right
-      header_room h =
-          simp (within, eq-eqb (length supply) (supply_length s) whole, lt-ltb room (header_length + length supply) h)
-
-      pub header_done : header_length + length supply ≤ room → 0 ≡ header_refusal s supply room
-      unfolding header_refusal first_of check all_of supply_right
-      header_done h =
-          simp (within, eq-eqb (length supply) (supply_length s) whole, le-ltb room (header_length + length supply) h)
 
 -- what holds of a header that is not refused
 pub record HeaderReady (s : Setup) (supply : List ℕ) (room : ℕ) : Type 0 where
@@ -76,31 +39,6 @@ header_ready s supply room e =
       signatures = eqb→eq (length supply) (supply_length s) p.1.0;
       enough = ltb-false room (header_length + length supply) b.0;
     }
-
--- a record
-module _ (h : Head) (v : Fields) (want n room : ℕ) where
-  pub record_numbers : numbers_fit h.widths v ≡ false → 2 ≡ refusal_of h v want n room
-  unfolding refusal_of first_of check
-  record_numbers out = simp out
-
-  module _ (numbers : numbers_fit h.widths v ≡ true) where
-    pub record_span : span_fits v.span ≡ false → 3 ≡ refusal_of h v want n room
-    unfolding refusal_of first_of check all_of
-    record_span out = simp (numbers, out)
-
-    module _ (span : span_fits v.span ≡ true) where
-      pub record_data : (n ≡ want → ⊥) → 3 ≡ refusal_of h v want n room
-      unfolding refusal_of first_of check all_of
-      record_data ne = simp (numbers, span, ne_eqb n want ne)
-
-      module _ (whole : n ≡ want) where
-        pub record_room : room < h.bytes + n → 11 ≡ refusal_of h v want n room
-        unfolding refusal_of first_of check all_of
-        record_room g = simp (numbers, span, eq-eqb n want whole, lt-ltb room (h.bytes + n) g)
-
-        pub record_done : h.bytes + n ≤ room → 0 ≡ refusal_of h v want n room
-        unfolding refusal_of first_of check all_of
-        record_done g = simp (numbers, span, eq-eqb n want whole, le-ltb room (h.bytes + n) g)
 
 -- what holds of a record that is not refused
 pub record RecordReady (h : Head) (v : Fields) (want n room : ℕ) : Type 0 where

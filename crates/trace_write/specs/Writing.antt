@@ -1,10 +1,12 @@
 -- Document 01, "The trace form" and "What is answered": the bytes of a header and of a record, and what writing them gives,
 -- with the checks in their order.
-use Rattle.std.specs.Prelude.{List, [], ◌∷◌, ◌++◌, Bool, not, cond, ℕ, ◌+◌, ◌^◌, length, eqb, leb, ltb}
+use Rattle.std.specs.Prelude.{List, [], ◌∷◌, ◌++◌, Bool, not, cond, Result, Ok, Err, ℕ, ◌+◌, ◌^◌, length, eqb, leb, ltb}
 use Rattle.rules.specs.Bytes.{overlay, all_of}
 use Rattle.rules.specs.Sizes.{setup_in_range, supply_right}
 use Rattle.rules.specs.Events.{kind_of, data_length}
 use Rattle.rules.specs.Answers.{check, first_of}
+use Rattle.rules.specs.Refusals.{number_in}
+use Rattle.rules.specs.declared.Refusal.{Refusal}
 use Rattle.rules.specs.declared.Setup.{Setup}
 use Rattle.rules.specs.declared.Span.{Span}
 use Rattle.rules.specs.declared.Event.{Event}
@@ -14,7 +16,6 @@ use Rattle.trace_form.specs.declared.Form.{Form}
 use Rattle.trace_form.specs.declared.Widths.{Widths}
 use Rattle.trace_form.specs.declared.Head.{Head}
 use Rattle.trace_form.specs.declared.Fields.{Fields}
-use Rattle.trace_write.specs.declared.Wrote.{Wrote}
 
 -- what writing leaves: the number, the count of bytes written, and the output
 pub record Written : Type 0 where
@@ -22,8 +23,13 @@ pub record Written : Type 0 where
   pub count : ℕ
   pub out : List ℕ
 
-abbrev pub left : Wrote → List ℕ → Written
-left r out = record { number = r.number; count = r.count; out = out }
+-- how many bytes were written: none where writing is refused
+abbrev pub count_in : Result ℕ Refusal → ℕ
+count_in (Ok n) = n
+count_in (Err r) = 0
+
+abbrev pub left : Result ℕ Refusal → List ℕ → Written
+left r out = record { number = number_in r; count = count_in r; out = out }
 
 -- done: the bytes over the output's front; refused: none, and the output as it was
 abbrev pub done : List ℕ → List ℕ → Written

@@ -1,7 +1,4 @@
-use mathlib.Core.Path.{◌≡◌}
-use Prim.Native.Nat.{ℕ, ◌≤◌, ◌-◌}
-use lib.ListN.{length}
-use Rattle.rules.specs.Sizes.{max_contexts}
+use Prim.Native.Nat.{ℕ}
 use Rattle.core_tables.specs.Image.{tables_in}
 use Rattle.core_tables.specs.Put.{Put}
 use Rattle.core_end.specs.Ending.{freed_of, with_contexts}
@@ -10,10 +7,5 @@ use Rattle.core_end.proofs.free_contexts.Given as goal
 
 abbrev pub invariant-loop-i : goal.invariant-loop-i
 invariant-loop-i l =
-    (l.i ≤ max_contexts) × (length l.tables ≡ length l.initial.tables)
-    × ((v : ℕ) → Put v l.initial.tables l.tables
-    (with_contexts (map_up_to (λ _. freed_of l.d) 0 l.i (tables_in v l.initial.tables).contexts)
-    (tables_in v l.initial.tables)))
-
-abbrev pub decreases-loop-i : goal.decreases-loop-i
-decreases-loop-i l = max_contexts - l.i
+    (v : ℕ) → Put v l.initial.tables l.tables
+    (with_contexts (map_up_to (λ _. freed_of l.d) 0 l.i (tables_in v l.initial.tables).contexts) (tables_in v l.initial.tables))

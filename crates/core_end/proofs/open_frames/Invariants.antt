@@ -1,7 +1,3 @@
-use mathlib.Core.Path.{◌≡◌}
-use Prim.Native.Nat.{◌≤◌, ◌-◌}
-use lib.ListN.{length}
-use Rattle.rules.specs.Sizes.{max_frames}
 use Rattle.core_tables.specs.Image.{tables_in}
 use Rattle.core_tables.specs.Put.{Put}
 use Rattle.core_end.specs.Ending.{opened_of, with_frames}
@@ -10,10 +6,6 @@ use Rattle.core_end.proofs.open_frames.Given as goal
 
 abbrev pub invariant-loop-i : goal.invariant-loop-i
 invariant-loop-i l =
-    (l.i ≤ max_frames) × (length l.tables ≡ length l.initial.tables)
-    × (Put l.pages l.initial.tables l.tables
+    Put l.pages l.initial.tables l.tables
     (with_frames (map_up_to (λ _. opened_of l.d) 0 l.i (tables_in l.pages l.initial.tables).frames)
-    (tables_in l.pages l.initial.tables)))
-
-abbrev pub decreases-loop-i : goal.decreases-loop-i
-decreases-loop-i l = max_frames - l.i
+    (tables_in l.pages l.initial.tables))

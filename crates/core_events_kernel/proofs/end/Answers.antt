@@ -7,7 +7,7 @@ use Rattle.core_events_kernel.proofs.end.Goals as goal
 
 pub end-requires : goal.end-requires
 end-requires c =
-    endable _ _ _ _ _ _ _ c.args.«data».now c.args.answer.now c.requires
+    endable c.args.given c.args.lent _ c.requires
 
 pub told-requires : goal.told-requires
 told-requires c =
@@ -18,6 +18,6 @@ returns c =
     let was = found _ c.requires in
     let ended = c.end.ensures in
     let long = c.end.auto.saved ∙ was.saved_long in
-    c.told.ensures c.args.setup _ _ _ _ (ended.canonical was.canonical) long
-    ∙ ap (λ m. ends c.args.setup 0 m c.args.answer.now) ended.is
-    ∙ sym (end_leaves _ _ _ _ _ _ _ _ _ c.requires)
+    c.told.ensures c.args.given.setup _ _ _ _ (ended.canonical was.canonical) long
+    ∙ ap (λ m. ends c.args.given.setup 0 m c.args.lent.answer.now) ended.is
+    ∙ sym (end_leaves c.args.given c.args.lent _ c.requires)

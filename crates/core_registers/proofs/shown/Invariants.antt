@@ -1,15 +1,10 @@
-use mathlib.Core.Path.{◌≡◌}
-use mathlib.Core.Bool.{cond}
-use Prim.Native.Nat.{◌-◌, ◌≤◌}
-use lib.ListN.{length, take}
+-- The first i registers are as they are to be shown, and the others as they were.
+use Rattle.std.proofs.Common.{◌≡◌, ◌++◌, take, drop, cond}
 use Rattle.rules.specs.Bytes.{map_from}
-use Rattle.rules.specs.Events.{shows}
+use Rattle.rules.specs.Events.{shows, shown}
 use Rattle.core_registers.proofs.shown.Given as goal
 
 abbrev pub invariant-loop-i : goal.invariant-loop-i
 invariant-loop-i l =
-    (l.i ≤ 8) × (length l.words ≡ 8)
-    × (take l.i l.words ≡ map_from (λ k x. cond (shows l.kind l.mask k) x 0) 0 (take l.i l.all))
-
-abbrev pub decreases-loop-i : goal.decreases-loop-i
-decreases-loop-i l = 8 - l.i
+    take l.i l.word-items ++ map_from (λ i x. cond (shows l.kind l.mask i) x 0) l.i (drop l.i l.word-items)
+    ≡ shown l.kind l.mask l.fn.registers.words

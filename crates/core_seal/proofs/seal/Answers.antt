@@ -61,8 +61,8 @@ returns-then-named-eq0 c =
       canonical = λ h. h;
     }
 
-pub place_at-place-requires : goal.place_at-place-requires
-place_at-place-requires c =
+pub place_at-requires : goal.place_at-requires
+place_at-requires c =
     let v = c.args.setup.pages in
     let h = c.requires in
     let w = c.slot_at-named.ensures v h.lent.canonical in
@@ -77,7 +77,7 @@ returns-in_default c =
     let w = c.slot_at-named.ensures v h.lent.canonical in
     let some = c.if-named-eq0.false in
     let n = named _ _ _ h w some in
-    let not-clear = rw (place_read a.setup a.tables.now _ _ n.number (c.place_at-place.ensures v)) at c.in_default.not-Clear in
+    let not-clear = rw (place_read a.setup a.tables.now _ _ n.number (c.place_at.ensures v)) at c.in_default.not-Clear in
     λ z. record { is = seal_named_holds _ _ _ _ _ n.names (seal_none _ _ _ _ _ _ not-clear); canonical = λ m. m }
 
 pub seal_bytes-requires : goal.seal_bytes-requires
@@ -86,7 +86,7 @@ seal_bytes-requires c =
     let h = c.requires in
     let w = c.slot_at-named.ensures v h.lent.canonical in
     let some = c.if-named-eq0.false in
-    let k = signed _ _ _ h w some (c.place_at-place.ensures v) c.in-Clear.is (c.used_at-used.ensures v) c.sealed_with-k.ensures in
+    let k = signed _ _ _ h w some (c.place_at.ensures v) c.in-Clear.is (c.used_at-used.ensures v) c.sealed_with-k.ensures in
     all_fit _ h.lent h.frame (few _ _ _ h w some) k
 
 pub put_move-requires : goal.put_move-requires
@@ -96,7 +96,7 @@ put_move-requires c =
     let h = c.requires in
     let w = c.slot_at-named.ensures v h.lent.canonical in
     let some = c.if-named-eq0.false in
-    let k = signed _ _ _ h w some (c.place_at-place.ensures v) c.in-Clear.is (c.used_at-used.ensures v) c.sealed_with-k.ensures in (
+    let k = signed _ _ _ h w some (c.place_at.ensures v) c.in-Clear.is (c.used_at-used.ensures v) c.sealed_with-k.ensures in (
       h.lent.words_long,
       h.lent.some_pages,
       h.limited.pages,
@@ -113,7 +113,7 @@ used_after-requires c =
     let w = c.slot_at-named.ensures v h.lent.canonical in
     let some = c.if-named-eq0.false in
     rw (c.used_at-used.ensures v)
-    (omega (arith, enough _ _ _ h w some (c.place_at-place.ensures v) c.in-Clear.is, h.limited.signatures))
+    (omega (arith, enough _ _ _ h w some (c.place_at.ensures v) c.in-Clear.is, h.limited.signatures))
 
 pub returns : goal.returns
 returns c =
@@ -122,7 +122,7 @@ returns c =
     let w = c.slot_at-named.ensures v h.lent.canonical in
     let some = c.if-named-eq0.false in
     let n = named _ _ _ h w some in
-    let clear = placed_clear _ _ _ h w some (c.place_at-place.ensures v) c.in-Clear.is in
+    let clear = placed_clear _ _ _ h w some (c.place_at.ensures v) c.in-Clear.is in
     let used = c.used_at-used.ensures v in
     let bytes = c.seal_bytes.ensures in
     let moved = c.put_move.ensures in

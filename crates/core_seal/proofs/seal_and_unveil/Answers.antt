@@ -20,7 +20,7 @@ sealed : (c : In-Sealed)
     ≡ Sealed c.in-Sealed.k
 sealed c =
     sym (place_read c.args.setup (words c) _ _ c.page_number-slot.ensures.is
-    (c.place_at-place.ensures c.args.setup.pages))
+    (c.place_at.ensures c.args.setup.pages))
     ∙ c.in-Sealed.is
 
 pub seal-sealed-requires : goal.seal-sealed-requires
@@ -33,7 +33,7 @@ returns-in_default c =
     let one = c.seal-sealed.ensures in
     let a = c.args in
     let read = place_read a.setup c.seal-sealed.new.tables a.d a.v
-    c.page_number-slot.ensures.is (c.place_at-place.ensures a.setup.pages) in
+    c.page_number-slot.ensures.is (c.place_at.ensures a.setup.pages) in
     λ z. record {
       is = brought_open _ _ _ _ (one z).is (rw read at c.in_default.not-Sealed);
       canonical = (one z).canonical;

@@ -23,28 +23,28 @@ put_move-requires c =
       h.0.page,
     )
 
-pub returns-then-unveil_bytes : goal.returns-then-unveil_bytes
-returns-then-unveil_bytes c =
-    let bytes = c.unveil_bytes.ensures in
-    let moved = c.put_move.ensures in
-    λ z. record {
-      is =
-          unveil_done _ _ _ _ _ c.args.work _ _ _ z _ c.page_number-slot.ensures.is
-          bytes.compared bytes.frames_left
-          c.if-unveil_bytes.true
-          moved;
-      canonical = moved.canonical;
-    }
-
-pub returns : goal.returns
-returns c =
+pub returns-then-not-unveil_bytes : goal.returns-then-not-unveil_bytes
+returns-then-not-unveil_bytes c =
     let bytes = c.unveil_bytes.ensures in
     let marked = c.put_life.ensures c.args.setup.pages in
     λ z. record {
       is =
           unveil_failed _ _ _ _ _ c.args.work _ _ _ z _ c.page_number-slot.ensures.is
           bytes.compared bytes.frames_left
-          c.if-unveil_bytes.false
+          c.if-not-unveil_bytes.true
           marked;
       canonical = marked.canonical;
+    }
+
+pub returns : goal.returns
+returns c =
+    let bytes = c.unveil_bytes.ensures in
+    let moved = c.put_move.ensures in
+    λ z. record {
+      is =
+          unveil_done _ _ _ _ _ c.args.work _ _ _ z _ c.page_number-slot.ensures.is
+          bytes.compared bytes.frames_left
+          c.if-not-unveil_bytes.false
+          moved;
+      canonical = moved.canonical;
     }

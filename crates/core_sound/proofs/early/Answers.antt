@@ -35,4 +35,4 @@ overflow_cast-setup-2 c = let r = room _ c.requires.1 in omega arith
 pub returns : goal.returns
 returns c =
     early_tells c.args.setup c.args.tables.now c.section-domains.ensures c.section-contexts.ensures c.section-frames.ensures
-    c.untouched-past.ensures (excess_tells _ _ c.excess-count.ensures)
+    c.untouched-past.ensures (excess_tells _ _ c.saturating_sub-used.ensures)

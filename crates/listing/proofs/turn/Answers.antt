@@ -1,5 +1,6 @@
-use Rattle.std.proofs.Common.{refl, ◌∙◌}
-use Rattle.listing.specs.Listing.{Point, point}
+use Rattle.std.proofs.Common.{◌∙◌}
+use Rattle.listing.specs.Listing.{Point}
+use Rattle.listing.specs.Promises.{lent_point}
 use Rattle.listing.proofs.Turns.{record_turns, record_further, refused_turns, end_turns}
 use Rattle.listing.proofs.turn.Goals as goal
 use Rattle.listing.proofs.turn.Goals.{Start}
@@ -7,26 +8,29 @@ use Rattle.listing.proofs.turn.Goals.{Start}
 abbrev stands : Start → Point
 stands s =
     let a = s.args in
-    point a.trace.now a.run a.tables.now a.saved.now a.frames.now a.store.now a.answer.now
+    lent_point a.trace.now a.run a.lent.now
 
 pub event_turn-requires : goal.event_turn-requires
 event_turn-requires c =
     let p = stands (goal.at.event_turn-requires c).Start in
-    (record_further p c.record_at-found.ensures c.in-Record.is c.requires.counted, c.requires.wide)
+    let h = c.in-Ok-Some in
+    (record_further p c.record_at.ensures (rw h.field-0-is at h.is) c.requires.counted, c.requires.wide)
 
-pub returns-in-Record-clause-lists : goal.returns-in-Record-clause-lists
-returns-in-Record-clause-lists c =
-    let p = stands (goal.at.returns-in-Record-clause-lists c).Start in
+pub returns-in-Ok-Some-clause-lists : goal.returns-in-Ok-Some-clause-lists
+returns-in-Ok-Some-clause-lists c =
+    let p = stands (goal.at.returns-in-Ok-Some-clause-lists c).Start in
+    let h = c.in-Ok-Some in
     c.event_turn.ensures.lists
-    ∙ record_turns p c.record_at-found.ensures c.in-Record.is c.args.at c.args.out.now c.data_of-new.ensures
+    ∙ record_turns p c.record_at.ensures (rw h.field-0-is at h.is) c.args.at c.args.out.now c.data_of-new.ensures
 
-pub returns-in-Refused-clause-lists : goal.returns-in-Refused-clause-lists
-returns-in-Refused-clause-lists c =
-    let p = stands (goal.at.returns-in-Refused-clause-lists c).Start in
-    refused_turns p c.record_at-found.ensures c.args.at c.args.out.now c.ended.ensures c.in-Refused.is
+pub returns-in-Ok-None-clause-lists : goal.returns-in-Ok-None-clause-lists
+returns-in-Ok-None-clause-lists c =
+    let p = stands (goal.at.returns-in-Ok-None-clause-lists c).Start in
+    let h = c.in-Ok-None in
+    end_turns p c.record_at.ensures c.args.at c.args.out.now c.ended.ensures (rw h.field-0-is at h.is)
+
+pub returns-in-Err-clause-lists : goal.returns-in-Err-clause-lists
+returns-in-Err-clause-lists c =
+    let p = stands (goal.at.returns-in-Err-clause-lists c).Start in
+    refused_turns p c.record_at.ensures c.args.at c.args.out.now c.ended-in-Err.ensures c.in-Err.is c.into.ensures
     c.used-told.ensures c.refused_line-count.ensures.put
-
-pub returns-in-End-clause-lists : goal.returns-in-End-clause-lists
-returns-in-End-clause-lists c =
-    let p = stands (goal.at.returns-in-End-clause-lists c).Start in
-    end_turns p c.record_at-found.ensures c.args.at c.args.out.now c.ended-in-End.ensures refl c.in-End.is

@@ -6,13 +6,11 @@ use Rattle.core_events_application.proofs.contexts.spawn.Goals as goal
 
 pub activity_at-activity-requires : goal.activity_at-activity-requires
 activity_at-activity-requires c =
-    spawn_reads _ c.args.tables.now c.args.saved.now c.args.frames.now c.args.store.now
-    c.args.supply.now _ c.args.«data».now c.args.answer.now c.args.u c.requires
+    spawn_reads c.args.given c.args.lent _ c.args.u c.requires
 
 pub put_activity-requires : goal.put_activity-requires
 put_activity-requires c =
-    spawn_runs _ c.args.tables.now c.args.saved.now c.args.frames.now c.args.store.now
-    c.args.supply.now c.args.c c.args.«data».now c.args.answer.now _ c.requires
+    spawn_runs c.args.given c.args.lent c.args.c _ c.requires
 
 pub told-requires : goal.told-requires
 told-requires c =
@@ -20,5 +18,5 @@ told-requires c =
 
 pub returns : goal.returns
 returns c =
-    spawn_steps _ _ _ _ _ _ _ _ _ _ c.requires _ c.activity_at-activity.ensures c.domain-d.ensures
+    spawn_steps c.args.given c.args.lent _ _ c.requires _ c.activity_at-activity.ensures c.domain-d.ensures
     c.put_activity.ensures c.told.ensures

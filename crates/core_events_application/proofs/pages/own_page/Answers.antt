@@ -11,7 +11,7 @@ pub returns : goal.returns
 returns c =
     let v = c.args.setup.pages in
     rw (
-      c.frame.ensures,
+      c.unwrap_or.ensures,
       c.mapping_at-mapping.ensures v,
       c.page_number-number.ensures.is,
       c.domain-domain.ensures,

@@ -4,6 +4,6 @@ use Rattle.core_tables.specs.Image.{word_at, contexts_at}
 use Rattle.core_sound.specs.Told.{Tells, Each}
 use Rattle.core_sound.proofs.loops.deserted.Given as goal
 
-abbrev pub invariant-loop-i : goal.invariant-loop-i
-invariant-loop-i l =
-    Tells (Each (λ k. l.low < word_at l.tables k → word_at l.tables k ≤ l.low + 3 → ⊥) contexts_at l.i) l.any
+abbrev pub invariant-loop-w : goal.invariant-loop-w
+invariant-loop-w l =
+    Tells (Each (λ k. l.low < word_at l.tables k → word_at l.tables k ≤ l.low + 3 → ⊥) contexts_at (contexts_at + l.w-index)) l.any

@@ -8,7 +8,8 @@ loop-i-init c = each_none _ _
 pub loop-i-preserved : goal.loop-i-preserved
 loop-i-preserved c =
     let l = c.loop-i in
-    each_more _ _ l.i (omega arith) l.invariant (kept_tells c.args.tables.now _ _ l.i c.excess-m.ensures c.excess-s.ensures)
+    each_more _ _ l.i (omega arith) l.invariant
+    (kept_tells c.args.tables.now _ _ l.i c.saturating_sub-mapped.ensures c.saturating_sub-sign.ensures)
 
 pub returns : goal.returns
 returns c = counted_zero (omega arith) c.loop-i.invariant

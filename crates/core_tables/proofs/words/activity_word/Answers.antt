@@ -1,16 +1,18 @@
--- `words::activity_word` meets its contract.
-use native.Mathlib.Omega.{arith}
-use Rattle.core_tables.proofs.Codes.{free_code, running_code, interrupt_code, call_code}
+use Rattle.std.proofs.Common.{◌≡◌, rules, arith}
+use Rattle.rules.specs.declared.Activity.TheVariants.{Kept}
+use Rattle.rules.specs.declared.TrapKind.TheVariants.{Interrupt, Call}
+use Rattle.core_tables.proofs.Codes.{running_code, interrupt_code, call_code}
 use Rattle.core_tables.proofs.words.activity_word.Goals as goal
-
-pub returns-in-Free : goal.returns-in-Free
-returns-in-Free c = rw c.in-Free.is free_code
 
 pub returns-in-Running : goal.returns-in-Running
 returns-in-Running c = rw c.in-Running.is (running_code _ (omega arith))
 
-pub returns-in-Interrupt : goal.returns-in-Interrupt
-returns-in-Interrupt c = rw (c.in-Kept.is, c.in-Interrupt.is) (interrupt_code _ (omega arith))
+pub returns-in-Kept-default-Interrupt : goal.returns-in-Kept-default-Interrupt
+returns-in-Kept-default-Interrupt c =
+    let e : c.args.a ≡ Kept c.in-Kept-default-Interrupt.d Interrupt = search rules in
+    rw e (interrupt_code _ (omega arith))
 
-pub returns-in-Call : goal.returns-in-Call
-returns-in-Call c = rw (c.in-Kept.is, c.in-Call.is) (call_code _ (omega arith))
+pub returns-in-Kept-default-Call : goal.returns-in-Kept-default-Call
+returns-in-Kept-default-Call c =
+    let e : c.args.a ≡ Kept c.in-Kept-default-Call.d Call = search rules in
+    rw e (call_code _ (omega arith))
