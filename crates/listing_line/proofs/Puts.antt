@@ -1,12 +1,12 @@
 -- Texts put one behind the other are one text, and hex byte by byte.
 use mathlib.Core.Path.{◌≡◌, refl, sym, ap, ap₂, ◌∙◌}
 use mathlib.Core.List.{List, [], ◌∷◌, ◌++◌, append_assoc}
-use Prim.Native.Nat.{ℕ, suc, ◌+◌, ◌*◌, ◌/◌, ◌%◌, ◌<◌, ◌≤◌}
+use Prim.Native.Nat.{ℕ, suc, ◌+◌, ◌*◌, ◌/◌, ◌%◌, ◌<◌}
 use native.Mathlib.Nat.{add-zero}
 use native.Mathlib.Numerals.{add-one}
 use native.Mathlib.Omega.{arith}
 use lib.ListN.{length, take, get_or, set, length-append}
-use lib.Seq.{sets, take-suc, take_all, length-take-le}
+use lib.Seq.{sets, take-suc}
 use Rattle.io.specs.Digits.{hex_digit_ascii}
 use Rattle.rules.specs.Bytes.{overlay}
 use Rattle.rules.specs.declared.Answer.{Answer}
@@ -74,31 +74,21 @@ unfolding hex
 hex_append [] b = refl
 hex_append (x ∷ a) b = ap (λ (l : List ℕ). hex_digit_ascii (x / 16) ∷ hex_digit_ascii (x % 16) ∷ l) (hex_append a b)
 
-pub length_hex : (a : List ℕ) → length (hex a) ≡ 2 * length a
-unfolding hex
-length_hex [] = refl
-length_hex (x ∷ a) = omega (arith, length_hex a)
-
-module _ (bytes before out : List ℕ) (at i : ℕ) where
+module _ (bytes : List ℕ) (i : ℕ) {start before after : Cursor} where
   -- one byte more
-  pub hex_turn : {x y : ℕ} → i < length bytes → out ≡ overlay at (hex (take i bytes)) before → x ≡ hex_digit_ascii (get_or bytes i 0 / 16)
-      → y ≡ hex_digit_ascii (get_or bytes i 0 % 16)
-      → set (set out (at + 2 * i) x) (at + 2 * i + 1) y ≡ overlay at (hex (take (i + 1) bytes)) before
+  pub hex_turn : {x y : ℕ} → i < length bytes → Writes (hex (take i bytes)) (2 * i) start before
+      → x ≡ hex_digit_ascii (get_or bytes i 0 / 16) → y ≡ hex_digit_ascii (get_or bytes i 0 % 16)
+      → Writes (x ∷ y ∷ []) 2 before after
+      → Writes (hex (take (i + 1) bytes)) (2 * (i + 1)) start after
   unfolding hex
-  hex_turn {x} {y} h e ex ey =
-      let so_far : Put at (hex (take i bytes)) before (at + 2 * i) out =
-      record { ends = omega (arith, length_hex (take i bytes), length-take-le i bytes (omega arith)); bytes = e } in
+  hex_turn {x} {y} h so_far ex ey pair =
       let one : hex (take (i + 1) bytes) ≡ hex (take i bytes) ++ (x ∷ y ∷ []) =
       ap (λ (k : ℕ). hex (take k bytes)) (add-one i)
       ∙ ap hex (take-suc bytes i 0 h)
       ∙ hex_append (take i bytes) (get_or bytes i 0 ∷ [])
       ∙ ap₂ (λ (u v : ℕ). hex (take i bytes) ++ (u ∷ v ∷ [])) (sym ex) (sym ey) in
-      rw one (put_then so_far (put_two (at + 2 * i) x y out)).bytes
-
-  pub hex_done : length bytes ≤ i → out ≡ overlay at (hex (take i bytes)) before
-      → Put at (hex bytes) before (at + 2 * length bytes) out
-  hex_done h e =
-      record { ends = omega (arith, length_hex bytes); bytes = e ∙ ap (λ (l : List ℕ). overlay at (hex l) before) (take_all i bytes h) }
+      let room : 2 * i + 2 ≡ 2 * (i + 1) = omega arith in
+      rw (one, ← room) (then so_far pair)
 
 -- the last field
 pub last_none : (shown : List ℕ) → length shown ≡ 0 → dash ≡ last_field shown
