@@ -15,7 +15,7 @@ pub fn perform(given: Given<'_>, lent: Lent<'_>, event: Event) -> Answer
     requires { Granted (handed_in given lent event) }
     ensures { Steps (handed_in given.entry lent.entry event) (left_by result lent.exit) }
 {
-    // Made anew to be handed on: "a parameter that holds a `&mut [T]` which the caller gets back" is not covered as it is.
+    // Taken apart once: each event's function borrows a part by itself, and shared where the event leaves that part alone.
     let Lent {
         tables,
         saved,
@@ -23,27 +23,22 @@ pub fn perform(given: Given<'_>, lent: Lent<'_>, event: Event) -> Answer
         store,
         answer,
     } = lent;
-    let lent = Lent {
-        tables,
-        saved,
-        frames,
-        store,
-        answer,
-    };
     match event {
-        E::Begin(d, c) => begin(given, lent, d, c),
-        E::End(d) => end(given, lent, d),
-        E::Map(d, v, f) => map(given, lent, d, v, f),
-        E::Unmap(d, v) => unmap(given, lent, d, v),
-        E::KernelRead(f, span) => kernel_read(given, lent, f, span),
-        E::KernelWrite(f, span) => kernel_write(given, lent, f, span),
-        E::Resume(d, c) => resume(given, lent, d, c),
-        E::Spawn(c, u) => spawn(given, lent, c, u),
-        E::Leave(c) => leave(given, lent, c),
-        E::Cloak(c, v) => cloak(given, lent, c, v),
-        E::Uncloak(c, v) => uncloak(given, lent, c, v),
-        E::Read(c, v, span) => read(given, lent, c, v, span),
-        E::Write(c, v, span) => write(given, lent, c, v, span),
-        E::Trap(c, kind, mask) => trap(given, lent, c, kind, mask),
+        E::Begin(d, c) => begin(given, tables, saved, frames, store, answer, d, c),
+        E::End(d) => end(given, tables, saved, frames, store, answer, d),
+        E::Map(d, v, f) => map(given, tables, saved, frames, store, answer, d, v, f),
+        E::Unmap(d, v) => unmap(given, tables, saved, frames, store, answer, d, v),
+        E::KernelRead(f, span) => kernel_read(given, tables, saved, frames, store, answer, f, span),
+        E::KernelWrite(f, span) => kernel_write(
+            given, tables, saved, frames, store, answer, f, span,
+        ),
+        E::Resume(d, c) => resume(given, tables, saved, frames, store, answer, d, c),
+        E::Spawn(c, u) => spawn(given, tables, saved, frames, store, answer, c, u),
+        E::Leave(c) => leave(given, tables, saved, frames, store, answer, c),
+        E::Cloak(c, v) => cloak(given, tables, saved, frames, store, answer, c, v),
+        E::Uncloak(c, v) => uncloak(given, tables, saved, frames, store, answer, c, v),
+        E::Read(c, v, span) => read(given, tables, saved, frames, store, answer, c, v, span),
+        E::Write(c, v, span) => write(given, tables, saved, frames, store, answer, c, v, span),
+        E::Trap(c, kind, mask) => trap(given, tables, saved, frames, store, answer, c, kind, mask),
     }
 }

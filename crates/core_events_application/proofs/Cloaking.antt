@@ -23,37 +23,36 @@ use Rattle.core_tables.specs.Put.{set_page, set_names}
 use Rattle.core_seal.specs.Asked.{Sealable}
 use Rattle.core_seal.proofs.Granted.{sealable}
 use Rattle.core_answer.specs.declared.lent.Given.{Given}
-use Rattle.core_answer.specs.declared.lent.Lent.{Lent}
 use Rattle.core_answer.specs.Handed.{Handed, given_in, machine_in, refuses, stepped, ends}
-use Rattle.core_answer.specs.Lending.{handed_in}
+use Rattle.core_answer.specs.Lending.{handed_with}
 use Rattle.core_answer.proofs.Laws.{found, was_accepted, was_granted, granted_leaves}
 use Rattle.core_events_application.specs.OwnPages.{Owned, own_of}
 use Rattle.core_events_application.specs.declared.pages.Own.{Own}
 use Rattle.core_events_application.proofs.OwnPages.{outset, owned, own_number, frame_in_holds, frame_listed, frame_fits}
 
-module _ (g : Given) (l : Lent) (c : Ctc) (v : Gvpn) where
+module _ (g : Given) (words saved frames store buffer : List ℕ) (c : Ctc) (v : Gvpn) where
   abbrev event : Handed
-  event = handed_in g l (Cloak c v)
+  event = handed_with g words saved frames store buffer (Cloak c v)
 
   module _ (none : refuses event ≡ 0) where
-    pub cloak_owned : Owned g.setup l.tables.now c v
+    pub cloak_owned : Owned g.setup words c v
     unfolding numbers_in
     cloak_owned = owned event c v refl none
 
-    module _ (o : Own) (is : o ≡ own_of g.setup (tables_in g.setup.pages l.tables.now) c v) where
-      pub cloak_seals : Sealable g.setup outset l.tables.now l.frames.now l.store.now g.supply.now o.frame
+    module _ (o : Own) (is : o ≡ own_of g.setup (tables_in g.setup.pages words) c v) where
+      pub cloak_seals : Sealable g.setup outset words frames store g.supply.now o.frame
       unfolding numbers_in row on_page own_frame
       cloak_seals =
           let r = found _ none in
-          sealable (given_in event) outset (saved_in g.setup.contexts l.saved.now) l.tables.now l.frames.now l.store.now
+          sealable (given_in event) outset (saved_in g.setup.contexts saved) words frames store
           r.tables_long r.canonical _ (was_accepted _ none) (frame_in_holds event c v refl none o is refl)
           (rw is (was_granted _ none).signatures) (omega arith)
 
-      pub cloak_fits : {n : ℕ} → n ≡ length l.frames.now → o.frame.0 * g.setup.size + g.setup.size ≤ n
+      pub cloak_fits : {n : ℕ} → n ≡ length frames → o.frame.0 * g.setup.size + g.setup.size ≤ n
       unfolding numbers_in row on_page
       cloak_fits e = frame_fits event c v refl none o is refl e
 
-      pub cloak_moves : {n : ℕ} → n ≡ length l.tables.now
+      pub cloak_moves : {n : ℕ} → n ≡ length words
           → (n ≡ image_words) × (1 ≤ g.setup.pages) × (g.setup.pages ≤ max_pages) × (o.number < max_entries) × (o.frame.0 < max_frames)
           × PlaceFits (Clear o.frame Dirty) × NamesFit g.setup.pages (Some (o.domain, v))
       unfolding numbers_in row on_page PlaceFits NamesFit sign_word
@@ -76,6 +75,6 @@ module _ (g : Given) (l : Lent) (c : Ctc) (v : Gvpn) where
           (set_page o.number
           (record { mapping = (get_or m.tables.pages o.number public_page).mapping; place = Clear o.frame Dirty })
           m.tables)
-          → ends g.setup 0 (underway t m.saved bytes m.store m.seals m.unveils) l.answer.now ≡ stepped event
+          → ends g.setup 0 (underway t m.saved bytes m.store m.seals m.unveils) buffer ≡ stepped event
       unfolding perform performed row on_page seal_all does done cloaked own_frame overlay
       cloak_leaves m e b q = rw (q, b, e, is) (sym (granted_leaves event none))

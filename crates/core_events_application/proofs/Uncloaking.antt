@@ -24,9 +24,8 @@ use Rattle.core_tables.specs.Image.{image_words, max_entries, tables_in, saved_i
 use Rattle.core_tables.specs.Put.{Put, set_page, set_names}
 use Rattle.core_seal.proofs.Steps.{NotClear}
 use Rattle.core_answer.specs.declared.lent.Given.{Given}
-use Rattle.core_answer.specs.declared.lent.Lent.{Lent}
 use Rattle.core_answer.specs.Handed.{Handed, machine_in, refuses, stepped, ends}
-use Rattle.core_answer.specs.Lending.{handed_in}
+use Rattle.core_answer.specs.Lending.{handed_with}
 use Rattle.core_answer.proofs.Laws.{was_accepted, granted_leaves}
 use Rattle.core_events_application.specs.OwnPages.{Owned, own_of, Openable, Opened}
 use Rattle.core_events_application.specs.declared.pages.Own.{Own}
@@ -50,34 +49,34 @@ module _ (s : Setup) (words frames : List ℕ) where
   opened_clear p f w clear zeroed named =
       record { is = λ z store. rw (clear, zeroed, named.tables); canonical = named.canonical }
 
-module _ (g : Given) (l : Lent) (c : Ctc) (v : Gvpn) where
+module _ (g : Given) (words saved frames store buffer : List ℕ) (c : Ctc) (v : Gvpn) where
   abbrev event : Handed
-  event = handed_in g l (Uncloak c v)
+  event = handed_with g words saved frames store buffer (Uncloak c v)
 
   module _ (none : refuses event ≡ 0) where
-    pub uncloak_owned : Owned g.setup l.tables.now c v
+    pub uncloak_owned : Owned g.setup words c v
     unfolding numbers_in
     uncloak_owned = owned event c v refl none
 
-    module _ (o : Own) (is : o ≡ own_of g.setup (tables_in g.setup.pages l.tables.now) c v) where
+    module _ (o : Own) (is : o ≡ own_of g.setup (tables_in g.setup.pages words) c v) where
       pub uncloak_listed : o.number < max_entries
       unfolding numbers_in
       uncloak_listed = (own_number event c v refl none o is).listed
 
-      pub uncloak_slot : {n : ℕ} → n ≡ length l.store.now → o.number * g.setup.size + g.setup.size ≤ n
+      pub uncloak_slot : {n : ℕ} → n ≡ length store → o.number * g.setup.size + g.setup.size ≤ n
       unfolding numbers_in
       uncloak_slot e = slot_fits event c v refl none o is e
 
-      pub uncloak_puts : {n : ℕ} → n ≡ length l.tables.now → (n ≡ image_words) × (o.number < max_entries) × PlaceFits Public
+      pub uncloak_puts : {n : ℕ} → n ≡ length words → (n ≡ image_words) × (o.number < max_entries) × PlaceFits Public
       unfolding PlaceFits sign_word
       uncloak_puts e = (omega (arith, uncloak_owned.tested.long), uncloak_listed, omega arith)
 
       -- the page's place, as it was read
-      module _ (p : Place) (at : p ≡ (get_or (tables_in g.setup.pages l.tables.now).pages o.number public_page).place) where
-        place_own : p ≡ place_of g.setup (tables_in g.setup.pages l.tables.now) (domain_of (tables_in g.setup.pages l.tables.now) c) v
+      module _ (p : Place) (at : p ≡ (get_or (tables_in g.setup.pages words).pages o.number public_page).place) where
+        place_own : p ≡ place_of g.setup (tables_in g.setup.pages words) (domain_of (tables_in g.setup.pages words) c) v
         place_own = rw is at at
 
-        pub uncloak_opens : Openable g.setup l.tables.now l.frames.now p
+        pub uncloak_opens : Openable g.setup words frames p
         unfolding numbers_in
         uncloak_opens =
             let t = uncloak_owned.tested in
@@ -91,22 +90,22 @@ module _ (g : Given) (l : Lent) (c : Ctc) (v : Gvpn) where
                   (sym place_own ∙ e)).0;
             }
 
-        pub uncloak_leaves : {y z bytes slots : List ℕ} → Opened g.setup p l.tables.now l.frames.now y bytes
-            → slots ≡ with_part g.setup.size o.number (zeros g.setup.size) l.store.now
+        pub uncloak_leaves : {y z bytes slots : List ℕ} → Opened g.setup p words frames y bytes
+            → slots ≡ with_part g.setup.size o.number (zeros g.setup.size) store
             → Put g.setup.pages y z
             (set_page o.number
             (record { mapping = (get_or (tables_in g.setup.pages y).pages o.number public_page).mapping; place = Public })
             (tables_in g.setup.pages y))
-            → ends g.setup 0 (underway (tables_in g.setup.pages z) (saved_in g.setup.contexts l.saved.now) bytes slots 0 0) l.answer.now
+            → ends g.setup 0 (underway (tables_in g.setup.pages z) (saved_in g.setup.contexts saved) bytes slots 0 0) buffer
             ≡ stepped event
         unfolding perform performed row acting seal_all does done uncloaked overlay
         uncloak_leaves opened zeroed put =
-            let t : Tables = tables_in g.setup.pages l.tables.now in
+            let t : Tables = tables_in g.setup.pages words in
             let own = domain_of t c in
             let public : Machine → Machine =
             λ m. on_tables (with_place g.setup own v Public) (fill_slot g.setup own v (zeros g.setup.size) m) in
             rw (put.tables, zeroed, is)
-            (ap (λ (m : Machine). ends g.setup 0 (public m) l.answer.now)
-            (opened.is (saved_in g.setup.contexts l.saved.now) l.store.now
+            (ap (λ (m : Machine). ends g.setup 0 (public m) buffer)
+            (opened.is (saved_in g.setup.contexts saved) store
             ∙ ap (λ (q : Place). zero_if_clear g.setup q (machine_in event)) place_own)
             ∙ sym (granted_leaves event none))

@@ -1,16 +1,26 @@
 // Kinds 7, 8 and 13: what a context does to itself and to others of its domain. It spawns another, leaves, or traps into the kernel.
-ghost use Rattle.core_answer.specs.Lending.{handed_in, left_by};
+ghost use Rattle.core_answer.specs.Handed.{left};
+ghost use Rattle.core_answer.specs.Lending.{handed_with};
 ghost use Rattle.core_answer.specs.Promises.{Granted, Steps};
 
-use core_answer::{Given, Lent};
+use core_answer::Given;
 use rules::{Activity, Answer, Ctc, Event, TrapKind};
 
 // Kind 7: context u runs in context c's domain too.
-pub fn spawn(given: Given<'_>, lent: Lent<'_>, c: Ctc, u: Ctc) -> Answer
-    requires { Granted (handed_in given lent (Event.Spawn c u)) }
-    ensures { Steps (handed_in given.entry lent.entry (Event.Spawn c u)) (left_by result lent.exit) }
+pub fn spawn(
+    given: Given<'_>,
+    tables: &mut [u16],
+    saved: &[u64],
+    frames: &[u8],
+    store: &[u8],
+    answer: &[u8],
+    c: Ctc,
+    u: Ctc,
+) -> Answer
+    requires { Granted (handed_with given tables.old saved.now frames.now store.now answer.now (Event.Spawn c u)) }
+    ensures { Steps (handed_with given.entry tables.old saved.now frames.now store.now answer.now (Event.Spawn c u))
+        (left result tables.new saved.now frames.now store.now answer.now) }
 {
-    let Lent { tables, .. } = lent;
     let activity = core_tables::activity_at(tables, c.0 as usize);
     let d = activity.domain();
     core_tables::put_activity(tables, u.0 as usize, Activity::Running(d));
@@ -18,11 +28,19 @@ pub fn spawn(given: Given<'_>, lent: Lent<'_>, c: Ctc, u: Ctc) -> Answer
 }
 
 // Kind 8: context c is Free.
-pub fn leave(given: Given<'_>, lent: Lent<'_>, c: Ctc) -> Answer
-    requires { Granted (handed_in given lent (Event.Leave c)) }
-    ensures { Steps (handed_in given.entry lent.entry (Event.Leave c)) (left_by result lent.exit) }
+pub fn leave(
+    given: Given<'_>,
+    tables: &mut [u16],
+    saved: &mut [u64],
+    frames: &[u8],
+    store: &[u8],
+    answer: &[u8],
+    c: Ctc,
+) -> Answer
+    requires { Granted (handed_with given tables.old saved.old frames.now store.now answer.now (Event.Leave c)) }
+    ensures { Steps (handed_with given.entry tables.old saved.old frames.now store.now answer.now (Event.Leave c))
+        (left result tables.new saved.new frames.now store.now answer.now) }
 {
-    let Lent { tables, saved, .. } = lent;
     let setup = given.setup;
     let context = c.0 as usize;
     core_tables::put_activity(tables, context, Activity::Free);
@@ -31,16 +49,21 @@ pub fn leave(given: Given<'_>, lent: Lent<'_>, c: Ctc) -> Answer
 }
 
 // Kind 13: context c is Kept with its registers, and those that the trap shows are given, the others as zero.
-pub fn trap(given: Given<'_>, lent: Lent<'_>, c: Ctc, kind: TrapKind, mask: u8) -> Answer
-    requires { Granted (handed_in given lent (Event.Trap c kind mask)) }
-    ensures { Steps (handed_in given.entry lent.entry (Event.Trap c kind mask)) (left_by result lent.exit) }
+pub fn trap(
+    given: Given<'_>,
+    tables: &mut [u16],
+    saved: &mut [u64],
+    frames: &[u8],
+    store: &[u8],
+    answer: &mut [u8],
+    c: Ctc,
+    kind: TrapKind,
+    mask: u8,
+) -> Answer
+    requires { Granted (handed_with given tables.old saved.old frames.now store.now answer.old (Event.Trap c kind mask)) }
+    ensures { Steps (handed_with given.entry tables.old saved.old frames.now store.now answer.old (Event.Trap c kind mask))
+        (left result tables.new saved.new frames.now store.now answer.new) }
 {
-    let Lent {
-        tables,
-        saved,
-        answer,
-        ..
-    } = lent;
     let setup = given.setup;
     let context = c.0 as usize;
     let activity = core_tables::activity_at(tables, context);

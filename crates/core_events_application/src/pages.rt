@@ -2,11 +2,12 @@
 ghost use Rattle.std.specs.Prelude.{◌≡◌, ℕ, ◌<◌, length};
 ghost use Rattle.core_tables.specs.Image.{image_words, max_entries, tables_in};
 ghost use Rattle.core_tables.specs.Put.{Put};
-ghost use Rattle.core_answer.specs.Lending.{handed_in, left_by};
+ghost use Rattle.core_answer.specs.Handed.{left};
+ghost use Rattle.core_answer.specs.Lending.{handed_with};
 ghost use Rattle.core_answer.specs.Promises.{Granted, Steps};
 ghost use Rattle.core_events_application.specs.OwnPages.{Owned, own_of, Openable, Opened, written_tables};
 
-use core_answer::{Given, Lent};
+use core_answer::Given;
 use core_seal::{NotUnveiled, Work};
 use rules::{Answer, Asid, Ctc, Event, Gppn, Gvpn, Place, Refusal, Setup, Span, Wear};
 
@@ -60,16 +61,20 @@ fn mark_dirty(tables: &mut [u16], number: usize)
 }
 
 // Kind 9: what is Clear in the mapped frame is sealed, the frame becomes zero, and the page Clear there, dirty.
-pub fn cloak(given: Given<'_>, lent: Lent<'_>, c: Ctc, v: Gvpn) -> Answer
-    requires { Granted (handed_in given lent (Event.Cloak c v)) }
-    ensures { Steps (handed_in given.entry lent.entry (Event.Cloak c v)) (left_by result lent.exit) }
+pub fn cloak(
+    given: Given<'_>,
+    tables: &mut [u16],
+    saved: &[u64],
+    frames: &mut [u8],
+    store: &mut [u8],
+    answer: &[u8],
+    c: Ctc,
+    v: Gvpn,
+) -> Answer
+    requires { Granted (handed_with given tables.old saved.now frames.old store.old answer.now (Event.Cloak c v)) }
+    ensures { Steps (handed_with given.entry tables.old saved.now frames.old store.old answer.now (Event.Cloak c v))
+        (left result tables.new saved.now frames.new store.new answer.now) }
 {
-    let Lent {
-        tables,
-        frames,
-        store,
-        ..
-    } = lent;
     let setup = given.setup;
     let own = own_page(setup, tables, c, v);
     let f = own.frame;
@@ -89,16 +94,20 @@ pub fn cloak(given: Given<'_>, lent: Lent<'_>, c: Ctc, v: Gvpn) -> Answer
 }
 
 // Kind 10: the frame in which the page is Clear, and its slot, become zero, and the page Public.
-pub fn uncloak(given: Given<'_>, lent: Lent<'_>, c: Ctc, v: Gvpn) -> Answer
-    requires { Granted (handed_in given lent (Event.Uncloak c v)) }
-    ensures { Steps (handed_in given.entry lent.entry (Event.Uncloak c v)) (left_by result lent.exit) }
+pub fn uncloak(
+    given: Given<'_>,
+    tables: &mut [u16],
+    saved: &[u64],
+    frames: &mut [u8],
+    store: &mut [u8],
+    answer: &[u8],
+    c: Ctc,
+    v: Gvpn,
+) -> Answer
+    requires { Granted (handed_with given tables.old saved.now frames.old store.old answer.now (Event.Uncloak c v)) }
+    ensures { Steps (handed_with given.entry tables.old saved.now frames.old store.old answer.now (Event.Uncloak c v))
+        (left result tables.new saved.now frames.new store.new answer.now) }
 {
-    let Lent {
-        tables,
-        frames,
-        store,
-        ..
-    } = lent;
     let setup = given.setup;
     let own = own_page(setup, tables, c, v);
     let number = own.number;
@@ -110,17 +119,21 @@ pub fn uncloak(given: Given<'_>, lent: Lent<'_>, c: Ctc, v: Gvpn) -> Answer
 }
 
 // Kind 11: a private page is brought in and its bytes given; of a Public one the mapped frame's, as the kernel is given them.
-pub fn read(given: Given<'_>, lent: Lent<'_>, c: Ctc, v: Gvpn, span: Span) -> Answer
-    requires { Granted (handed_in given lent (Event.Read c v span)) }
-    ensures { Steps (handed_in given.entry lent.entry (Event.Read c v span)) (left_by result lent.exit) }
+pub fn read(
+    given: Given<'_>,
+    tables: &mut [u16],
+    saved: &[u64],
+    frames: &mut [u8],
+    store: &mut [u8],
+    answer: &mut [u8],
+    c: Ctc,
+    v: Gvpn,
+    span: Span,
+) -> Answer
+    requires { Granted (handed_with given tables.old saved.now frames.old store.old answer.old (Event.Read c v span)) }
+    ensures { Steps (handed_with given.entry tables.old saved.now frames.old store.old answer.old (Event.Read c v span))
+        (left result tables.new saved.now frames.new store.new answer.new) }
 {
-    let Lent {
-        tables,
-        frames,
-        store,
-        answer,
-        ..
-    } = lent;
     let setup = given.setup;
     let own = own_page(setup, tables, c, v);
     let f = own.frame;
@@ -140,16 +153,21 @@ pub fn read(given: Given<'_>, lent: Lent<'_>, c: Ctc, v: Gvpn, span: Span) -> An
 }
 
 // Kind 12: a private page is brought in, the data stored, and the page dirty; on a Public one the data goes to the mapped frame.
-pub fn write(given: Given<'_>, lent: Lent<'_>, c: Ctc, v: Gvpn, span: Span) -> Answer
-    requires { Granted (handed_in given lent (Event.Write c v span)) }
-    ensures { Steps (handed_in given.entry lent.entry (Event.Write c v span)) (left_by result lent.exit) }
+pub fn write(
+    given: Given<'_>,
+    tables: &mut [u16],
+    saved: &[u64],
+    frames: &mut [u8],
+    store: &mut [u8],
+    answer: &[u8],
+    c: Ctc,
+    v: Gvpn,
+    span: Span,
+) -> Answer
+    requires { Granted (handed_with given tables.old saved.now frames.old store.old answer.now (Event.Write c v span)) }
+    ensures { Steps (handed_with given.entry tables.old saved.now frames.old store.old answer.now (Event.Write c v span))
+        (left result tables.new saved.now frames.new store.new answer.now) }
 {
-    let Lent {
-        tables,
-        frames,
-        store,
-        ..
-    } = lent;
     let setup = given.setup;
     let own = own_page(setup, tables, c, v);
     let f = own.frame;

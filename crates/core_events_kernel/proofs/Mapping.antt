@@ -23,9 +23,8 @@ use Rattle.rules.specs.declared.Answer.{Answer}
 use Rattle.core_tables.specs.Image.{tables_in}
 use Rattle.core_tables.specs.Put.{Put, set_page}
 use Rattle.core_answer.specs.declared.lent.Given.{Given}
-use Rattle.core_answer.specs.declared.lent.Lent.{Lent}
 use Rattle.core_answer.specs.Handed.{Handed, left, refuses, stepped}
-use Rattle.core_answer.specs.Lending.{handed_in}
+use Rattle.core_answer.specs.Lending.{handed_with}
 use Rattle.core_answer.specs.Promises.{Tells}
 use Rattle.core_answer.proofs.Laws.{found, was_accepted, was_granted, granted_leaves}
 
@@ -33,9 +32,9 @@ use Rattle.core_answer.proofs.Laws.{found, was_accepted, was_granted, granted_le
 abbrev remapped : ℕ → Option Gppn → Tables → Tables
 remapped n x t = set_page n (record { mapping = x; place = (get_or t.pages n public_page).place }) t
 
-module _ (g : Given) (l : Lent) (d : Asid) (v : Gvpn) where
+module _ (g : Given) (words saved frames store buffer : List ℕ) (d : Asid) (v : Gvpn) where
   abbrev with_event : Event → Handed
-  with_event e = handed_in g l e
+  with_event e = handed_with g words saved frames store buffer e
 
   page_numbered : (e : Event) → refuses (with_event e) ≡ 0 → T (domain_in g.setup d) → T (page_in g.setup v)
       → (Limited g.setup) × (d.0 < g.setup.domains) × (v.0 < g.setup.pages)
@@ -50,13 +49,13 @@ module _ (g : Given) (l : Lent) (d : Asid) (v : Gvpn) where
     map_numbered = let n = each _ (was_granted _ none).numbers in page_numbered (Map d v f) none n.0 n.1.0
 
     pub map_steps : {r : Answer} {n : ℕ} (after : List ℕ) → Numbered g.setup d v n
-        → ((k : ℕ) → Put k l.tables.now after (remapped n (Some f) (tables_in k l.tables.now))) → Tells after 0 0 0 r
-        → left r after l.saved.now l.frames.now l.store.now l.answer.now ≡ stepped (with_event (Map d v f))
+        → ((k : ℕ) → Put k words after (remapped n (Some f) (tables_in k words))) → Tells after 0 0 0 r
+        → left r after saved frames store buffer ≡ stepped (with_event (Map d v f))
     unfolding perform performed row on_records seal_all does done overlay
     map_steps after n put tells =
         let was = found _ none in
         let p = put g.setup.pages in
-        tells g.setup l.saved.now l.frames.now l.store.now l.answer.now (p.canonical was.canonical) was.saved_long
+        tells g.setup saved frames store buffer (p.canonical was.canonical) was.saved_long
         ∙ rw (p.tables, n.is) (sym (granted_leaves (with_event (Map d v f)) none))
 
   -- 3, unmap
@@ -66,11 +65,11 @@ module _ (g : Given) (l : Lent) (d : Asid) (v : Gvpn) where
     unmap_numbered = let n = each _ (was_granted _ none).numbers in page_numbered (Unmap d v) none n.0 n.1.0
 
     pub unmap_steps : {r : Answer} {n : ℕ} (after : List ℕ) → Numbered g.setup d v n
-        → ((k : ℕ) → Put k l.tables.now after (remapped n None (tables_in k l.tables.now))) → Tells after 0 0 0 r
-        → left r after l.saved.now l.frames.now l.store.now l.answer.now ≡ stepped (with_event (Unmap d v))
+        → ((k : ℕ) → Put k words after (remapped n None (tables_in k words))) → Tells after 0 0 0 r
+        → left r after saved frames store buffer ≡ stepped (with_event (Unmap d v))
     unfolding perform performed row on_records seal_all does done overlay
     unmap_steps after n put tells =
         let was = found _ none in
         let p = put g.setup.pages in
-        tells g.setup l.saved.now l.frames.now l.store.now l.answer.now (p.canonical was.canonical) was.saved_long
+        tells g.setup saved frames store buffer (p.canonical was.canonical) was.saved_long
         ∙ rw (p.tables, n.is) (sym (granted_leaves (with_event (Unmap d v)) none))

@@ -6,11 +6,11 @@ use Rattle.core_events_kernel.proofs.begin.Goals as goal
 
 pub put_life-requires : goal.put_life-requires
 put_life-requires c =
-    begin_lives c.args.given c.args.lent _ c.args.c c.requires
+    begin_lives c.args.given _ _ _ _ _ _ c.args.c c.requires
 
 pub put_activity-requires : goal.put_activity-requires
 put_activity-requires c =
-    begin_runs c.args.given c.args.lent c.args.d _ c.requires c.put_life.auto.tables
+    begin_runs c.args.given _ _ _ _ _ c.args.d _ c.requires c.put_life.auto.tables
 
 pub told-requires : goal.told-requires
 told-requires c =
@@ -18,4 +18,4 @@ told-requires c =
 
 pub returns : goal.returns
 returns c =
-    begin_steps c.args.given c.args.lent _ _ c.requires _ _ c.put_life.ensures c.put_activity.ensures c.told.ensures
+    begin_steps c.args.given _ _ _ _ _ _ _ c.requires _ _ c.put_life.ensures c.put_activity.ensures c.told.ensures

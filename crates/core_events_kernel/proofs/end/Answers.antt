@@ -7,7 +7,7 @@ use Rattle.core_events_kernel.proofs.end.Goals as goal
 
 pub end-requires : goal.end-requires
 end-requires c =
-    endable c.args.given c.args.lent _ c.requires
+    endable c.args.given _ _ _ _ _ _ c.requires
 
 pub told-requires : goal.told-requires
 told-requires c =
@@ -19,5 +19,5 @@ returns c =
     let ended = c.end.ensures in
     let long = c.end.auto.saved ∙ was.saved_long in
     c.told.ensures c.args.given.setup _ _ _ _ (ended.canonical was.canonical) long
-    ∙ ap (λ m. ends c.args.given.setup 0 m c.args.lent.answer.now) ended.is
-    ∙ sym (end_leaves c.args.given c.args.lent _ c.requires)
+    ∙ ap (λ m. ends c.args.given.setup 0 m c.args.answer.now) ended.is
+    ∙ sym (end_leaves c.args.given _ _ _ _ _ _ c.requires)

@@ -6,11 +6,11 @@ use Rattle.core_events_kernel.proofs.kernel_read.Goals as goal
 
 pub seal-sealed-requires : goal.seal-sealed-requires
 seal-sealed-requires c =
-    read_seals c.args.given c.args.lent _ c.args.span c.requires
+    read_seals c.args.given _ _ _ _ _ _ c.args.span c.requires
 
 pub give_span-requires : goal.give_span-requires
 give_span-requires c =
-    read_fits c.args.given c.args.lent _ _ c.requires c.seal-sealed.auto.frames
+    read_fits c.args.given _ _ _ _ _ _ _ c.requires c.seal-sealed.auto.frames
 
 pub told-requires : goal.told-requires
 told-requires c =
@@ -21,4 +21,4 @@ returns c =
     let was = found _ c.requires in
     let sealed = c.seal-sealed.ensures _ in
     c.told.ensures c.args.given.setup _ _ _ _ (sealed.canonical was.canonical) was.saved_long
-    ∙ read_leaves c.args.given c.args.lent _ _ c.requires _ sealed.is c.give_span.ensures
+    ∙ read_leaves c.args.given _ _ _ _ _ _ _ c.requires _ sealed.is c.give_span.ensures

@@ -6,11 +6,11 @@ use Rattle.core_events_kernel.proofs.kernel_write.Goals as goal
 
 pub seal-sealed-requires : goal.seal-sealed-requires
 seal-sealed-requires c =
-    write_seals c.args.given c.args.lent _ c.args.span c.requires
+    write_seals c.args.given _ _ _ _ _ _ c.args.span c.requires
 
 pub put_span-requires : goal.put_span-requires
 put_span-requires c =
-    write_fits c.args.given c.args.lent _ _ c.requires c.seal-sealed.auto.frames
+    write_fits c.args.given _ _ _ _ _ _ _ c.requires c.seal-sealed.auto.frames
 
 pub told-requires : goal.told-requires
 told-requires c =
@@ -21,4 +21,4 @@ returns c =
     let was = found _ c.requires in
     let sealed = c.seal-sealed.ensures _ in
     c.told.ensures c.args.given.setup _ _ _ _ (sealed.canonical was.canonical) was.saved_long
-    ∙ write_leaves c.args.given c.args.lent _ _ c.requires _ sealed.is c.put_span.ensures
+    ∙ write_leaves c.args.given _ _ _ _ _ _ _ c.requires _ sealed.is c.put_span.ensures

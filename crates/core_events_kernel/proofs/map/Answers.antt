@@ -6,7 +6,7 @@ use Rattle.core_events_kernel.proofs.map.Goals as goal
 
 pub page_number-number-requires : goal.page_number-number-requires
 page_number-number-requires c =
-    map_numbered c.args.given c.args.lent _ _ c.args.f c.requires
+    map_numbered c.args.given _ _ _ _ _ _ _ c.args.f c.requires
 
 pub put_mapping-requires : goal.put_mapping-requires
 put_mapping-requires c =
@@ -18,4 +18,4 @@ told-requires c =
 
 pub returns : goal.returns
 returns c =
-    map_steps c.args.given c.args.lent _ _ _ c.requires _ c.page_number-number.ensures c.put_mapping.ensures c.told.ensures
+    map_steps c.args.given _ _ _ _ _ _ _ _ c.requires _ c.page_number-number.ensures c.put_mapping.ensures c.told.ensures

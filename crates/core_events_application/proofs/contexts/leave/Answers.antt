@@ -6,11 +6,11 @@ use Rattle.core_events_application.proofs.contexts.leave.Goals as goal
 
 pub put_activity-requires : goal.put_activity-requires
 put_activity-requires c =
-    leave_frees c.args.given c.args.lent _ c.requires
+    leave_frees c.args.given _ _ _ _ _ _ c.requires
 
 pub clear_saved-requires : goal.clear_saved-requires
 clear_saved-requires c =
-    leave_kept c.args.given c.args.lent _ c.requires
+    leave_kept c.args.given _ _ _ _ _ _ c.requires
 
 pub told-requires : goal.told-requires
 told-requires c =
@@ -18,5 +18,5 @@ told-requires c =
 
 pub returns : goal.returns
 returns c =
-    leave_steps c.args.given c.args.lent _ c.requires _ _ c.put_activity.ensures c.clear_saved.ensures
+    leave_steps c.args.given _ _ _ _ _ _ c.requires _ _ c.put_activity.ensures c.clear_saved.ensures
     c.clear_saved.auto.saved c.told.ensures

@@ -6,11 +6,11 @@ use Rattle.core_events_application.proofs.contexts.spawn.Goals as goal
 
 pub activity_at-activity-requires : goal.activity_at-activity-requires
 activity_at-activity-requires c =
-    spawn_reads c.args.given c.args.lent _ c.args.u c.requires
+    spawn_reads c.args.given _ _ _ _ _ _ c.args.u c.requires
 
 pub put_activity-requires : goal.put_activity-requires
 put_activity-requires c =
-    spawn_runs c.args.given c.args.lent c.args.c _ c.requires
+    spawn_runs c.args.given _ _ _ _ _ c.args.c _ c.requires
 
 pub told-requires : goal.told-requires
 told-requires c =
@@ -18,5 +18,5 @@ told-requires c =
 
 pub returns : goal.returns
 returns c =
-    spawn_steps c.args.given c.args.lent _ _ c.requires _ c.activity_at-activity.ensures c.domain-d.ensures
+    spawn_steps c.args.given _ _ _ _ _ _ _ c.requires _ c.activity_at-activity.ensures c.domain-d.ensures
     c.put_activity.ensures c.told.ensures

@@ -6,23 +6,23 @@ use Rattle.core_events_application.proofs.contexts.trap.Goals as goal
 
 pub activity_at-activity-requires : goal.activity_at-activity-requires
 activity_at-activity-requires c =
-    trap_stops c.args.given c.args.lent _ c.args.kind c.args.mask c.requires
+    trap_stops c.args.given _ _ _ _ _ _ c.args.kind c.args.mask c.requires
 
 pub load-registers-requires : goal.load-registers-requires
 load-registers-requires c =
-    trap_brings c.args.given c.args.lent c.args.c c.args.kind c.args.mask c.requires
+    trap_brings c.args.given _ _ _ _ _ c.args.c c.args.kind c.args.mask c.requires
 
 pub give-requires : goal.give-requires
 give-requires c =
-    trap_room c.args.given c.args.lent c.args.c c.args.kind c.args.mask c.requires
+    trap_room c.args.given _ _ _ _ _ c.args.c c.args.kind c.args.mask c.requires
 
 pub put_activity-requires : goal.put_activity-requires
 put_activity-requires c =
-    trap_stops c.args.given c.args.lent _ c.args.kind c.args.mask c.requires
+    trap_stops c.args.given _ _ _ _ _ _ c.args.kind c.args.mask c.requires
 
 pub put_saved-requires : goal.put_saved-requires
 put_saved-requires c =
-    trap_kept c.args.given c.args.lent _ c.args.kind c.args.mask c.requires c.load-registers.ensures
+    trap_kept c.args.given _ _ _ _ _ _ c.args.kind c.args.mask c.requires c.load-registers.ensures
 
 pub told-requires : goal.told-requires
 told-requires c =
@@ -30,6 +30,6 @@ told-requires c =
 
 pub returns : goal.returns
 returns c =
-    trap_steps c.args.given c.args.lent _ _ _ c.requires _ _ c.activity_at-activity.ensures c.domain-d.ensures
+    trap_steps c.args.given _ _ _ _ _ _ _ _ c.requires _ _ c.activity_at-activity.ensures c.domain-d.ensures
     c.load-registers.ensures c.shown-shown.ensures c.give.ensures
     c.put_activity.ensures c.put_saved.ensures c.put_saved.auto.saved c.told.ensures
