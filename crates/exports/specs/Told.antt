@@ -6,7 +6,7 @@ use Rattle.rules.specs.Events.{kind_of}
 use Rattle.rules.specs.Refusals.{number_of}
 use Rattle.trace_form.specs.Form.{first, fields_of}
 use Rattle.trace_form.specs.declared.Fields.{Fields}
-use Rattle.trace_read.specs.Reading.{Found, read_at, record_in, place_after}
+use Rattle.trace_read.specs.Reading.{Found, read_at, place_after}
 use Rattle.trace_read.specs.declared.Record.{Record}
 
 abbrev pub row : ℕ → Fields → ℕ → ℕ → List ℕ
@@ -30,7 +30,7 @@ abbrev pub handed : ℕ → List ℕ → Handed
 handed place numbers = record { place = place; numbers = numbers }
 
 abbrev pub handed_of : Found → ℕ → Handed
-handed_of found place = handed (place_after (record_in found) place) (told found)
+handed_of found place = handed (place_after found place) (told found)
 
 abbrev pub next_record : List ℕ → ℕ → Handed
 next_record unread place = handed_of (read_at first unread place) place

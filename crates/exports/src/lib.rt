@@ -76,5 +76,5 @@ pub extern "C" fn next_record(unread: &[u8], place: usize, out: &mut [usize; 9])
 {
     let found = trace_read::record_at(unread, place);
     *out = numbers_of(found);
-    trace_read::place_after(place, found.ok().flatten())
+    trace_read::place_after(place, found)
 }

@@ -1,13 +1,44 @@
 -- How much of the answer buffer a line shows: nothing of an event that is not done, and else as much as its event asks, for which the
 -- buffer has room.
-use Rattle.std.proofs.Common.{◌≡◌, ◌≤◌, Bool, true, false, cond, ◌&&◌, eqb, length, refl, ap, ◌∙◌, arith, eqb-true}
+use Rattle.std.proofs.Common.{◌≡◌, ℕ, ◌≤◌, Bool, true, false, cond, ◌&&◌, eqb, length, refl, ap, ◌∙◌, arith, eqb-true}
 use borrow.Author.Tests.{eqb-false}
 use Rattle.rules.proofs.Parts.{length_overlay}
 use Rattle.rules.specs.Events.{answer_length}
 use Rattle.rules.specs.Answers.{refused, perform, performed, step}
+use Rattle.rules.specs.declared.Ctc.{Ctc}
+use Rattle.rules.specs.declared.Gppn.{Gppn}
+use Rattle.rules.specs.declared.Span.{Span}
+use Rattle.rules.specs.declared.TrapKind.{TrapKind}
+use Rattle.rules.specs.declared.Event.{Event}
+use Rattle.rules.specs.declared.Event.TheVariants.{Begin, End, Map, Unmap, KernelRead, KernelWrite, Resume}
+use Rattle.rules.specs.declared.Event.TheVariants.{Spawn, Leave, Cloak, Uncloak, Read, Write, Trap}
 use Rattle.core_answer.specs.Handed.{Handed, Left, given_in, machine_in, refuses, leaves, keeps, stepped}
 use Rattle.core_answer.proofs.Laws.{was_granted, granted_leaves, refused_leaves}
 use Rattle.listing.specs.Listing.{shows_answer, is_shown, shown_length}
+
+-- an event of another kind than the two that show something
+module _ {e : Event} (no_read : (f : Gppn) (x : Span) → e ≡ KernelRead f x → ⊥)
+    (no_trap : (c : Ctc) (k : TrapKind) (mask : ℕ) → e ≡ Trap c k mask → ⊥) where
+  -- it shows nothing, whatever it is answered
+  pub shown_none : (n : ℕ) → 0 ≡ shown_length e n
+  unfolding shown_length is_shown
+  shown_none n = go e refl
+    where
+      go : (x : Event) → e ≡ x → 0 ≡ shown_length x n
+      go (Begin d c) s = refl
+      go (End d) s = refl
+      go (Map d v f) s = refl
+      go (Unmap d v) s = refl
+      go (KernelRead f x) s = absurd (no_read f x s)
+      go (KernelWrite f x) s = refl
+      go (Resume d c) s = refl
+      go (Spawn c u) s = refl
+      go (Leave c) s = refl
+      go (Cloak c v) s = refl
+      go (Uncloak c v) s = refl
+      go (Read c v x) s = refl
+      go (Write c v x) s = refl
+      go (Trap c k mask) s = absurd (no_trap c k mask s)
 
 module _ (h : Handed) where
   -- what is answered 0 was not refused

@@ -71,11 +71,11 @@ module _ (p : Point) {found : Found}
 
   module _ {r : Record} (e : found ≡ Ok (Some r)) where
     pub record_turns : (at : ℕ) (out : List ℕ) {new : List ℕ}
-        → new ≡ data_in (Some r) (take (length p.trace - p.run.place) (unread p))
+        → new ≡ data_in (Ok (Some r)) (take (length p.trace - p.run.place) (unread p))
         → turns at (event_listed p r.event r.next new) out ≡ turns at (listed p) out
     unfolding listed_as
     record_turns at out {new} d =
-        let brings : new ≡ data_in (Some r) (unread p) = d ∙ ap (data_in (Some r)) to_end in
+        let brings : new ≡ data_in (Ok (Some r)) (unread p) = d ∙ ap (data_in (Ok (Some r))) to_end in
         ap (λ (l : Listed). turns at l out) (ap (event_listed p r.event r.next) brings ∙ as_listed e)
 
     pub record_further : p.run.index ≤ p.run.place → p.run.index < r.next

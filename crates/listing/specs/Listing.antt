@@ -99,7 +99,7 @@ used_in tables = slice_index tables used_at
 -- a record is an event; one that is refused ends the list
 unfoldable pub listed_as : Point → Found → Listed
 listed_as p (Ok None) = record { line = []; next = ended p }
-listed_as p (Ok (Some r)) = event_listed p r.event r.next (data_in (Some r) (unread p))
+listed_as p (Ok (Some r)) = event_listed p r.event r.next (data_in (Ok (Some r)) (unread p))
 listed_as p (Err n) = record { line = refused_line p.run.index (number_of n) (used_in p.tables); next = ended p }
 
 unfoldable pub listed : Point → Listed

@@ -194,10 +194,11 @@ fn turn(run: Run, trace: &[u8], lent: &mut Lent<'_>, out: &mut [u8], at: usize) 
     ensures within { result.count ≤ at + line_room (length lent.old.answer.now) }
 {
     let unread = &trace[run.place..];
-    match trace_read::record_at(unread, run.place) {
-        Ok(Some(found)) => {
-            let new = trace_read::data_of(unread, Some(found));
-            event_turn(run, found, new, trace, lent, out, at)
+    let found = trace_read::record_at(unread, run.place);
+    match found {
+        Ok(Some(record)) => {
+            let new = trace_read::data_of(unread, found);
+            event_turn(run, record, new, trace, lent, out, at)
         }
         Ok(None) => Filled {
             run: run.ended(trace.len()),

@@ -42,7 +42,8 @@ abbrev pub read_on : (List ℕ → ℕ → Records) → List ℕ → ℕ → Fou
 read_on rest unread place (Ok None) = all []
 read_on rest unread place (Err r) = refused (number_of r)
 read_on rest unread place (Ok (Some r)) =
-    also (item r.event (data_in (Some r) unread)) (rest (unread_after (Some r) unread) (place_after (Some r) place))
+    let found : Found = Ok (Some r) in
+    also (item r.event (data_in found unread)) (rest (unread_after found unread) (place_after found place))
 
 -- at most one record more than n; a reading that came to its last step here would give 0, which is no refusal
 unfoldable pub read_records : Form → ℕ → List ℕ → ℕ → Records

@@ -2,20 +2,22 @@
 use mathlib.Core.Path.{◌≡◌, refl, sym, ap, subst, ◌∙◌}
 use mathlib.Core.Bool.{Bool, true, false, cond}
 use mathlib.Core.List.{List, [], ◌∷◌}
-use Prim.Native.Nat.{ℕ, ◌≤◌}
+use Prim.Native.Nat.{ℕ, ◌-◌, ◌≤◌, ◌<◌}
 use native.Mathlib.Omega.{arith}
-use lib.ListN.{length, take}
+use lib.ListN.{length, take, drop}
 use lib.Dec.{leb, eqb, leb→le, eqb→eq}
-use borrow.Author.Tests.{le-leb, eq-eqb, leb-true}
+use borrow.Author.Tests.{lt-leb, le-leb, eq-eqb, leb-true}
 use Rattle.std.specs.Prelude.{Ok, Err}
 use Rattle.trace_bits.specs.Packing.{split}
 use Rattle.rules.specs.Bytes.{number, all_of}
 use Rattle.rules.specs.declared.Setup.{Setup}
-use Rattle.trace_form.specs.Header.{header_widths, header_length, setup_in, spare_in, header_values}
+use Rattle.trace_form.specs.Header.{header_widths, header_length, setup_in, spare_in, supply_length, header_values}
 use Rattle.rules.proofs.Facts.{each, passed}
 use Rattle.trace_read.specs.declared.Opened.{Opened}
+use Rattle.rules.specs.declared.Refusal.{Refusal}
 use Rattle.rules.specs.declared.Refusal.TheVariants.{CutShort}
 use Rattle.trace_read.specs.Reading.{Header, opened_at, sizes_whole, records_from, sizes_of, sizes_at, signed, header_at}
+use Rattle.trace_read.specs.Reading.{supply_in, records_in}
 
 module _ (trace : List ℕ) where
   -- n is the number that the header's bytes spell
@@ -39,6 +41,15 @@ module _ (trace : List ℕ) (o : Opened) (er : sizes_at trace ≡ Ok o) where
   header_whole h =
       let is : signed (length trace) (Ok o) ≡ Ok o = simp (le-leb o.records (length trace) h) in
       ap (signed (length trace)) er ∙ is
+
+-- cut short; r is what `read_sizes` found
+module _ (trace : List ℕ) (r : Header) (er : r ≡ sizes_at trace) where
+  -- a header whose signatures are cut short is refused
+  pub header_cut : (o : Opened) → r ≡ Ok o → length trace < o.records → Err CutShort ≡ header_at trace
+  unfolding header_at
+  header_cut o e h =
+      let cut : Err CutShort ≡ signed (length trace) (Ok o) = simp (lt-leb o.records (length trace) h) in
+      cut ∙ ap (signed (length trace)) (sym e ∙ er)
 
 -- what is known of a header that was read
 pub record HeaderRead (trace : List ℕ) (o : Opened) : Type 0 where
@@ -88,3 +99,27 @@ module _ (o : Opened) where
 
   pub starts_past : (trace : List ℕ) → header_at trace ≡ Ok o → header_length ≤ o.records
   starts_past trace e = omega (arith, records_start trace e)
+
+-- the parts of a trace whose header was read, and of one whose header was not; r is what `read_header` found
+module _ (trace : List ℕ) (r : Header) (er : r ≡ header_at trace) where
+  module _ (o : Opened) (e : r ≡ Ok o) where
+    -- what lies between the header's bytes and the place of the records is the supply
+    pub supply_part : (bytes : List ℕ) → bytes ≡ take (o.records - header_length) (drop header_length trace)
+        → bytes ≡ supply_in (header_at trace) trace
+    supply_part bytes eb =
+        let n : o.records - header_length ≡ supply_length o.setup = omega (arith, records_start o trace (sym er ∙ e)) in
+        eb
+        ∙ ap (λ (x : ℕ). take x (drop header_length trace)) n
+        ∙ ap (λ (h : Header). supply_in h trace) (sym e ∙ er)
+
+    -- what lies from that place on is the records
+    pub records_part : (bytes : List ℕ) → bytes ≡ drop o.records trace → bytes ≡ records_in (header_at trace) trace
+    records_part bytes eb = eb ∙ ap (λ (h : Header). records_in h trace) (sym e ∙ er)
+
+  -- behind a refused header there is no supply
+  pub no_supply : (n : Refusal) → r ≡ Err n → [] ≡ supply_in (header_at trace) trace
+  no_supply n e = ap (λ (h : Header). supply_in h trace) (sym e ∙ er)
+
+  -- and there are no records
+  pub no_records : (n : Refusal) → r ≡ Err n → [] ≡ records_in (header_at trace) trace
+  no_records n e = ap (λ (h : Header). records_in h trace) (sym e ∙ er)

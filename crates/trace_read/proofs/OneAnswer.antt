@@ -1,14 +1,12 @@
 -- Each public function's contract leaves one answer; of a part of the trace, one list of bytes.
 use mathlib.Core.Path.{◌≡◌, sym, ◌∙◌}
 use mathlib.Core.List.{List}
-use Rattle.std.specs.Prelude.{Option}
 use Prim.Native.Nat.{ℕ}
 use denote.Ref.{Bor}
 use Rattle.rules.specs.OneAnswer.{OneAnswer, OneSight}
 use Rattle.trace_read.specs.Promises.{Reads, Unread, Finds, Behind}
 use Rattle.trace_read.specs.declared.Reader.{Reader}
 use Rattle.trace_read.specs.Reading.{Found}
-use Rattle.trace_read.specs.declared.Record.{Record}
 use Rattle.trace_read.proofs.read_sizes as read_sizes
 use Rattle.trace_read.proofs.read_header as read-header
 use Rattle.trace_read.proofs.supply as supply
@@ -52,6 +50,6 @@ left_one d n m p t = p ∙ sym t
 pub finds_one : (unread : List ℕ) (place : ℕ) (r q : Found) → Finds unread place r → Finds unread place q → r ≡ q
 finds_one unread place r q p t = p ∙ sym t
 
-pub advance_one : (d : Reader) (found : Option Record) (r q : Reader) → Behind d found r → Behind d found q
+pub advance_one : (d : Reader) (found : Found) (r q : Reader) → Behind d found r → Behind d found q
     → (r.unread.now ≡ q.unread.now) × (r.place ≡ q.place)
 advance_one d found r q p t = (p.0 ∙ sym t.0, p.1 ∙ sym t.1)

@@ -16,12 +16,17 @@ use Rattle.trace_form.specs.declared.Form.{Form}
 use Rattle.trace_form.specs.declared.Head.{Head}
 use Rattle.trace_form.specs.declared.Fields.{Fields}
 use Rattle.rules.specs.declared.Refusal.{Refusal}
-use Rattle.rules.specs.declared.Refusal.TheVariants.{NoEvent}
+use Rattle.rules.specs.declared.Refusal.TheVariants.{NoEvent, CutShort}
 use Rattle.trace_read.specs.Reading.{Found, kind_in, has_event, event_at, record_at, data_at, head_whole, record_of, found_of, read_at}
 use Rattle.trace_read.specs.declared.Record.{Record}
 
 -- a record's data
 module _ (n place start : ℕ) (e : Event) (len : ℕ) (el : len ≡ data_length e) (h : start ≤ n) where
+  -- a record whose data is cut short is refused
+  pub data_short : n - start < len → Err CutShort ≡ data_at n place start e
+  unfolding data_at
+  data_short g = simp (lt-leb (start + data_length e) n (omega (arith, el)))
+
   pub data_whole : len ≤ n - start → Ok (record_at e start len (place + start + len)) ≡ data_at n place start e
   unfolding data_at
   data_whole g =

@@ -96,21 +96,19 @@ read_at f unread place =
     cond (leb (2 ^ 64) (place + length unread)) (Err NotAcceptable)
     (cond (eqb (length unread) 0) (Ok None) (cond (has_event f k) (found_of (record_of f k unread place)) (Err NoEvent)))
 
--- the record found, if one was
-abbrev pub record_in : Found → Option Record
-record_in (Ok r) = r
-record_in (Err r) = None
+-- the part of the unread bytes that is a record's data; what is unread behind it, and its place. A refused read, and the
+-- end, leave both.
+abbrev pub data_in : Found → List ℕ → List ℕ
+data_in (Ok None) unread = []
+data_in (Err r) unread = []
+data_in (Ok (Some r)) unread = take r.len (drop r.start unread)
 
--- the part of the unread bytes that is a record's data; what is unread behind it, and its place. Where no record was found,
--- both stay.
-abbrev pub data_in : Option Record → List ℕ → List ℕ
-data_in None unread = []
-data_in (Some r) unread = take r.len (drop r.start unread)
+abbrev pub unread_after : Found → List ℕ → List ℕ
+unread_after (Ok None) unread = unread
+unread_after (Err r) unread = unread
+unread_after (Ok (Some r)) unread = drop r.len (drop r.start unread)
 
-abbrev pub unread_after : Option Record → List ℕ → List ℕ
-unread_after None unread = unread
-unread_after (Some r) unread = drop r.len (drop r.start unread)
-
-abbrev pub place_after : Option Record → ℕ → ℕ
-place_after None place = place
-place_after (Some r) place = r.next
+abbrev pub place_after : Found → ℕ → ℕ
+place_after (Ok None) place = place
+place_after (Err r) place = place
+place_after (Ok (Some r)) place = r.next

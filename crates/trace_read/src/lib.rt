@@ -200,32 +200,35 @@ pub fn record_at(unread: &[u8], place: usize) -> Result<Option<Record>, Refusal>
 }
 
 // The part of the unread bytes that is the data of the record found at their front; none where none was found.
-pub fn data_of(unread: &[u8], found: Option<Record>) -> &[u8]
+pub fn data_of(unread: &[u8], found: Result<Option<Record>, Refusal>) -> &[u8]
     ensures { result.now ≡ data_in found unread.now }
 {
     match found {
-        Some(record) => part(unread, record.start, record.len),
-        None => &[],
+        Ok(Some(record)) => part(unread, record.start, record.len),
+        Ok(None) => &[],
+        Err(_) => &[],
     }
 }
 
-// What is unread behind the record found; all of it where none was found.
-pub fn unread_after(unread: &[u8], found: Option<Record>) -> &[u8]
+// What is unread behind the record found; all of it where none was found, at the end and at a refusal.
+pub fn unread_after(unread: &[u8], found: Result<Option<Record>, Refusal>) -> &[u8]
     ensures { result.now ≡ unread_after found unread.now }
 {
     match found {
-        Some(record) => behind(behind(unread, record.start), record.len),
-        None => unread,
+        Ok(Some(record)) => behind(behind(unread, record.start), record.len),
+        Ok(None) => unread,
+        Err(_) => unread,
     }
 }
 
-// The place behind the record found; the same place where none was found.
-pub fn place_after(place: usize, found: Option<Record>) -> usize
+// The place behind the record found; the same place where none was found, at the end and at a refusal.
+pub fn place_after(place: usize, found: Result<Option<Record>, Refusal>) -> usize
     ensures { result ≡ place_after found place }
 {
     match found {
-        Some(record) => record.next,
-        None => place,
+        Ok(Some(record)) => record.next,
+        Ok(None) => place,
+        Err(_) => place,
     }
 }
 
@@ -259,8 +262,8 @@ impl<'a> Reader<'a> {
         record_at(self.unread, self.place)
     }
 
-    // The reader behind the record found; at the same place where none was found.
-    pub fn advance(self, found: Option<Record>) -> Reader<'a>
+    // The reader behind what was found; at the same place where that was no record.
+    pub fn advance(self, found: Result<Option<Record>, Refusal>) -> Reader<'a>
         ensures { Behind self.entry found result }
     {
         let place = place_after(self.place, found);
