@@ -1,13 +1,13 @@
 -- Laws of `same_bytes` for loops that gather differences: bytes are the same where no bit of any differs, and where each
 -- block of them is.
-use mathlib.Core.Path.{◌≡◌, refl, sym, ap, ◌∙◌}
+use mathlib.Core.Path.{◌≡◌, refl, sym, ap, ap₂, ◌∙◌}
 use mathlib.Core.Bool.{Bool, true, false, ◌&&◌, and-false, and_assoc}
 use mathlib.Core.List.{List, [], ◌∷◌, ◌++◌}
 use Rattle.std.specs.Simd.{first_chunks}
 use Prim.Native.Nat.{ℕ, zero, suc, ◌+◌, ◌*◌}
 use native.Mathlib.Nat.{zero-mul}
 use native.Mathlib.Omega.{arith}
-use lib.ListN.{length, drop, take-append-drop}
+use lib.ListN.{length, take, drop, take-append-drop, length-take}
 use lib.Seq.{drop-drop}
 use lib.Dec.{eqb}
 use lib.Bits.{bit_or, bit_xor, xor_self, or_add_and, xor_add_and, and_le_l, and_le_r}
@@ -50,6 +50,22 @@ same_append [] (y ∷ ys) s t e = let never : ⊥ = omega arith in absurd never
 same_append (x ∷ xs) [] s t e = let never : ⊥ = omega arith in absurd never
 same_append (x ∷ xs) (y ∷ ys) s t e =
     ap (λ (b : Bool). eqb x y && b) (same_append xs ys s t (omega arith)) ∙ sym (and_assoc (eqb x y) _ _)
+
+-- bytes that are cut in two at one place, a into p and x, b into q and y: whether all is the same where the fronts are, and
+-- where they are not
+module _ (a b : List ℕ) (n : ℕ) {p x q y : List ℕ} (long : length a ≡ length b) (front : p ≡ take n a) (back : x ≡ drop n a)
+    (front_b : q ≡ take n b) (back_b : y ≡ drop n b) {told : Bool} (answer : told ≡ same_bytes p q) where
+  cut : same_bytes a b ≡ told && same_bytes x y
+  cut =
+      sym (ap₂ same_bytes (take-append-drop n a) (take-append-drop n b))
+      ∙ rw (answer, front, back, front_b, back_b)
+      (same_append (take n a) (take n b) (drop n a) (drop n b) (simp (length-take, long)))
+
+  pub front_same : told ≡ true → same_bytes x y ≡ same_bytes a b
+  front_same t = sym (cut ∙ ap (λ (s : Bool). s && same_bytes x y) t)
+
+  pub front_differs : told ≡ false → told ≡ same_bytes a b
+  front_differs f = f ∙ sym (cut ∙ ap (λ (s : Bool). s && same_bytes x y) f)
 
 -- a turn of the loop over bytes: d has gathered the differences of those before x and y
 pub same_next : (d x y : ℕ) {a b xs ys : List ℕ} → a ≡ x ∷ xs → b ≡ y ∷ ys → length a ≡ length b

@@ -4,10 +4,18 @@ use mathlib.Core.List.{List, ◌++◌, append_assoc}
 use Prim.Native.Nat.{ℕ, ◌+◌, ◌-◌, ◌*◌, ◌≤◌}
 use native.Mathlib.Nat.{add-sub_cancel_left}
 use native.Mathlib.Omega.{arith}
-use lib.ListN.{length, take}
+use lib.ListN.{length, take, length-take, length-drop}
 use borrow.Rule.Slice.PartMut.{put_mid, mid_of, Post-is}
 use Rattle.rules.specs.Bytes.{part, overlay, with_part}
 use Rattle.rules.proofs.Parts.{overlay_is}
+
+-- the bytes from at to end: how many there are at most, and that two of one length have as many there
+pub length_mid : (at end most : ℕ) (bytes : List ℕ) → end ≤ at + most → length (mid_of at (end - at) bytes) ≤ most
+length_mid at end most bytes h = rw length-take (omega arith)
+
+pub length_mids : (at end : ℕ) (a b : List ℕ) → length a ≡ length b
+    → length (mid_of at (end - at) a) ≡ length (mid_of at (end - at) b)
+length_mids at end a b e = simp (length-take, length-drop, e)
 
 -- the bytes from at to end, replaced
 pub put_overlay : (at end : ℕ) (new bytes : List ℕ) {left : List ℕ} → left ≡ new → end ≡ at + length new

@@ -6,6 +6,8 @@ ghost use Rattle.std.specs.Prelude.{◌≡◌, ◌+◌, ◌*◌, ◌≤◌, ◌<
 ghost use Rattle.rules.specs.Bytes.{part, with_part, overlay, zeros, same_bytes};
 
 // The lengths of the blocks in which bytes are compared.
+const LEAST: usize = 4;
+
 const SMALL: usize = 16;
 
 const MIDDLE: usize = 64;
@@ -40,9 +42,31 @@ pub fn same(a: &[u8], b: &[u8]) -> bool
         return false;
     }
     if count < MIDDLE {
-        return same_blocks::<SMALL>(a, b);
+        return same_few(a, b);
     }
-    if count < LARGE {
+    same_many(a, b)
+}
+
+// The same of a and b of one length, which are few. What is left over behind the blocks goes in smaller ones: byte by byte, 15
+// bytes take 1.6 times the instructions.
+fn same_few(a: &[u8], b: &[u8]) -> bool
+    requires { length a.now ≡ length b.now }
+    ensures { result ≡ same_bytes a.now b.now }
+{
+    let whole = a.len() / SMALL * SMALL;
+    let (p, x) = a.split_at(whole);
+    let (q, y) = b.split_at(whole);
+    same_blocks::<SMALL>(p, q) && (x.is_empty() || same_blocks::<LEAST>(x, y))
+}
+
+// The same of a and b of one length, which are more. It is no part of `same`, or a few bytes would pay too for the registers
+// that its loops save.
+#[inline(never)]
+fn same_many(a: &[u8], b: &[u8]) -> bool
+    requires { length a.now ≡ length b.now }
+    ensures { result ≡ same_bytes a.now b.now }
+{
+    if a.len() < LARGE {
         return same_blocks::<MIDDLE>(a, b);
     }
     same_blocks::<LARGE>(a, b)
