@@ -20,6 +20,10 @@ returns-then-not-acceptable c =
 pub refusal-requires : goal.refusal-requires
 refusal-requires c = tested (handed_in (goal.at.refusal-requires c).Start) c.acceptable.ensures c.if-not-acceptable.false
 
+pub perform-requires : goal.perform-requires
+perform-requires c =
+    later (handed_in (goal.at.perform-requires c).Start) c.acceptable.ensures c.if-not-acceptable.false c.in_default.ensures
+
 pub refused-requires-in-Err : goal.refused-requires-in-Err
 refused-requires-in-Err c =
     λ some. (tested (handed_in (goal.at.refused-requires-in-Err c).Start) c.acceptable.ensures c.if-not-acceptable.false).long
@@ -29,7 +33,3 @@ returns-in-Err c =
     let h = handed_in (goal.at.returns-in-Err c).Start in
     refused_by h c.acceptable.ensures c.if-not-acceptable.false _ c.in-Err.ensures
     (rw c.into-in-Err.ensures at (c.refused-in-Err.ensures h refl))
-
-pub perform-requires : goal.perform-requires
-perform-requires c =
-    later (handed_in (goal.at.perform-requires c).Start) c.acceptable.ensures c.if-not-acceptable.false c.in_default.ensures
