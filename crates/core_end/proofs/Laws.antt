@@ -2,12 +2,13 @@
 -- changed. And of one entry more that is set in a row.
 use mathlib.Core.Path.{◌≡◌, refl, sym, ap, ◌∙◌}
 use mathlib.Core.List.{List, [], ◌∷◌, map}
-use Prim.Native.Nat.{ℕ, zero, suc, ◌+◌, ◌-◌, ◌≤◌, ◌<◌}
-use native.Mathlib.Nat.{add-zero, add-suc, suc-add, zero-add, not-suc-le-zero, le_of_suc-le-suc}
+use Prim.Native.Nat.{ℕ, zero, suc, ◌+◌, ◌-◌, ◌*◌, ◌≤◌, ◌<◌}
+use native.Mathlib.Nat.{mul-le-mul, mul-le-mul_right, add-zero, add-suc, suc-add, zero-add, not-suc-le-zero, le_of_suc-le-suc}
 use native.Mathlib.Numerals.{add-one}
 use native.Mathlib.Omega.{arith}
 use lib.ListN.{length, get_or, set, replicate}
 use lib.Seq.{sets, set-get_or}
+use Rattle.rules.specs.Sizes.{max_domains, max_pages}
 use Rattle.rules.specs.Bytes.{map_from}
 
 module _ {A : Type 0} (f : ℕ → A → A) where
@@ -86,3 +87,8 @@ sets_more a l at i h =
     ap (λ (n : ℕ). set (sets l at (replicate (i - at) a)) n a) here
     ∙ sets_suc a l at (i - at)
     ∙ ap (λ (n : ℕ). sets l at (replicate n a)) next
+
+-- a domain's pages end within the table
+pub slots_fit : (d domains pages : ℕ) → d < domains → domains ≤ max_domains → pages ≤ max_pages
+    → d * pages + pages ≤ max_domains * max_pages
+slots_fit d domains pages h few small = omega (arith, mul-le-mul_right pages h, mul-le-mul few small)

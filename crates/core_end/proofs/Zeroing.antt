@@ -2,10 +2,13 @@
 use mathlib.Core.Path.{◌≡◌}
 use mathlib.Core.List.{List}
 use mathlib.Core.Bool.{cond}
-use Prim.Native.Nat.{ℕ, ◌+◌, ◌≤◌, ◌<◌}
+use Prim.Native.Nat.{ℕ, ◌+◌, ◌*◌, ◌≤◌, ◌<◌}
+use native.Mathlib.Nat.{mul-le-mul, mul-le-mul_right, mul_assoc}
 use native.Mathlib.Numerals.{add-one}
+use native.Mathlib.Omega.{arith}
 use lib.ListN.{length, drop, get_or, drop_of_length-le}
 use lib.Seq.{drop-cons}
+use Rattle.rules.specs.Sizes.{max_pages, max_size}
 use Rattle.rules.specs.Bytes.{with_part, zeros}
 use Rattle.rules.specs.Records.{open_frame, names_in}
 use Rattle.rules.specs.Events.{zero_named}
@@ -24,3 +27,11 @@ module _ (s : Setup) (d : Asid) (named : List FrameRecord) where
   pub zero_done : (k : ℕ) (bytes : List ℕ) → length named ≤ k → zero_named s d k (drop k named) bytes ≡ bytes
   unfolding zero_named
   zero_done k bytes h = rw (drop_of_length-le named h)
+
+-- the slots of a domain lie within the store
+pub slots_within : (d domains pages size : ℕ) → d < domains → d * (pages * size) + pages * size ≤ domains * pages * size
+slots_within d domains pages size h = omega (arith, mul-le-mul_right (pages * size) h, mul_assoc domains pages size)
+
+-- and are so few that their size is a number of the machine's
+pub slots_small : (pages size : ℕ) → pages ≤ max_pages → size ≤ max_size → pages * size ≤ max_pages * max_size
+slots_small pages size few small = omega (arith, mul-le-mul few small)

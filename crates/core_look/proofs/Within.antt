@@ -114,6 +114,52 @@ module _ (s : Setup) (x y frames store : List ℕ) (d : Asid) (v : Gvpn) where
       none true q = rw (ne_eqb _ 0 q)
       none false q = refl
 
+-- the place of a page, by its number
+pub place_read : (s : Setup) (x : List ℕ) (d : Asid) (v : Gvpn) {n : ℕ} {p : Place} → n ≡ page_number s d v
+    → p ≡ (get_or (tables_in s.pages x).pages n public_page).place
+    → p ≡ place_of s (tables_in s.pages x) d v
+place_read s x d v is e = e ∙ ap (λ (k : ℕ). (get_or (tables_in s.pages x).pages k public_page).place) is
+
+module _ (s : Setup) (x y frames store : List ℕ) (d : Asid) (v : Gvpn) where
+  -- the checks in their order, as the rules list them
+  pub number_first : look_number s x y frames store d v
+      ≡ first_of
+      (check 10 (not (lookable_in s x y frames store))
+      ∷ check 2 (not (all_of (domain_in s d ∷ page_in s v ∷ [])))
+      ∷ check 4 (is_public (place_of s (tables_in s.pages x) d v))
+      ∷ [])
+  unfolding look_number look_refusal first_of check
+  number_first = by (readable s x y)
+    where
+      by : (b : Bool) → cond b (look_refusal s (machine (state_in s x y) frames store) d v) 10
+          ≡ first_of
+          (check 10 (not (b && lookable s (machine (state_in s x y) frames store)))
+          ∷ check 2 (not (all_of (domain_in s d ∷ page_in s v ∷ [])))
+          ∷ check 4 (is_public (place_of s (tables_in s.pages x) d v))
+          ∷ [])
+      by true = refl
+      by false = refl
+
+  -- the two tests of sizes, made and passed, leave only whether the page is Public
+  module _ {a b : Bool} (l : a ≡ lookable_in s x y frames store) (p : a ≡ true)
+      (i : b ≡ all_of (domain_in s d ∷ page_in s v ∷ [])) (q : b ≡ true) where
+    pub within : Within s x y frames store d v
+    unfolding domain_in page_in
+    within =
+        let e = each _ (passed _ (sym i ∙ q)) in
+        let r = both_hold (readable s x y) _ (sym l ∙ p) in
+        record {
+          long = (is_readable s x y r.0).tables_long;
+          looks = lookable_facts s _ r.1;
+          domain = ltb→lt d.0 s.domains e.0;
+          page = ltb→lt v.0 s.pages e.1.0;
+        }
+
+    pub answered : {place : Place} → place ≡ place_of s (tables_in s.pages x) d v
+        → cond (is_public place) 4 0 ≡ look_number s x y frames store d v
+    unfolding first_of check
+    answered at = rw (number_first, ← l, p, ← i, q, at)
+
 module _ {s : Setup} {x y frames store : List ℕ} {d : Asid} {v : Gvpn} (w : Within s x y frames store d v) where
   pub slot_fits : page_number s d v * s.size + s.size ≤ length store
   slot_fits =

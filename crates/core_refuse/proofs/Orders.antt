@@ -5,14 +5,17 @@ use mathlib.Core.Bool.{Bool, true, false, cond}
 use Prim.Native.Nat.{ℕ, ◌≤◌, ◌<◌}
 use native.Mathlib.Nat.{add-zero}
 use native.Mathlib.Omega.{arith}
-use lib.Dec.{lit<}
+use lib.Dec.{ltb, ltb→lt, lit<}
 use borrow.Author.Tests.{le-ltb}
-use Rattle.rules.specs.Events.{Row}
+use Rattle.rules.specs.Bytes.{all_of}
+use Rattle.rules.proofs.Facts.{each, passed}
+use Rattle.rules.specs.Events.{Row, row}
 use Rattle.rules.specs.Answers.{Check, check, first_of}
 use Rattle.rules.specs.Refusals.{number_of}
 use Rattle.core_refuse.specs.Stages.{record_checks, seal_checks}
 use Rattle.core_refuse_event.specs.Stages.{shape_checks, by_shape}
 use Rattle.rules.specs.declared.Setup.{Setup}
+use Rattle.rules.specs.declared.Tables.{Tables}
 use Rattle.rules.specs.declared.Event.{Event}
 use Rattle.rules.specs.declared.Refusal.{Refusal}
 
@@ -52,6 +55,10 @@ pub stage_passed : (s : Setup) (e : Event) (r : Row) (new room : ℕ) (ds : List
 unfolding by_shape shape_checks check
 stage_passed s e r new room ds q = first_passed _ ds (lit< tt, (lit< tt, (lit< tt, (lit< tt, tt)))) (sym q)
 
+-- the checks of an event's second stage, on the conditions of its records
+abbrev pub of_row : Setup → Tables → Event → List Check
+of_row s t e = record_checks (row s t e).condition (row s t e).live (row s t e).mapped
+
 pub records_passed : (condition live mapped : Bool) (ds : List Check) → 0 ≡ first_of (record_checks condition live mapped)
     → first_of (record_checks condition live mapped ++ ds) ≡ first_of ds
 unfolding record_checks check
@@ -68,10 +75,22 @@ pub none_asked : (s : Setup) (used : ℕ) (cs : List Check) → used ≤ s.signa
 unfolding seal_checks
 none_asked s used cs h = rw (add-zero, le-ltb s.signatures used h) (first_idle cs 6)
 
--- what a stage that passed tells
-pub mapped_told : (condition live mapped : Bool) → 0 ≡ first_of (record_checks condition live mapped) → mapped ≡ true
+-- what a stage that passed tells: its condition holds, and the page is mapped
+pub records_told : (condition live mapped : Bool) → first_of (record_checks condition live mapped) ≡ 0
+    → (condition ≡ true) × (mapped ≡ true)
 unfolding record_checks check first_of
-mapped_told false live mapped e = absurd (omega arith)
-mapped_told true false mapped e = absurd (omega arith)
-mapped_told true true false e = absurd (omega arith)
-mapped_told true true true e = refl
+records_told false live mapped e = absurd (omega arith)
+records_told true false mapped e = absurd (omega arith)
+records_told true true false e = absurd (omega arith)
+records_told true true true e = (refl, refl)
+
+pub mapped_told : (condition live mapped : Bool) → 0 ≡ first_of (record_checks condition live mapped) → mapped ≡ true
+mapped_told condition live mapped e = (records_told condition live mapped (sym e)).1
+
+-- two numbers that pass the test of their limits are below them
+pub two_below : (a m b n : ℕ) → all_of (ltb a m ∷ ltb b n ∷ []) ≡ true → (a < m) × (b < n)
+two_below a m b n e = let r = each _ (passed _ e) in (ltb→lt a m r.0, ltb→lt b n r.1.0)
+
+-- and so is the first number of those that pass, whatever else is tested
+pub first_below : (a m : ℕ) (tests : List Bool) → all_of (ltb a m ∷ tests) ≡ true → a < m
+first_below a m tests e = ltb→lt a m (each _ (passed _ e)).0

@@ -2,3 +2,4 @@
 pub mod Spans
 pub mod Within
 pub mod Order
+pub mod Others

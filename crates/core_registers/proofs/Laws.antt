@@ -2,11 +2,11 @@
 use mathlib.Core.Path.{◌≡◌, refl, sym, ap, ap₂, ◌∙◌}
 use mathlib.Core.List.{List, [], ◌∷◌, ◌++◌, append_assoc, append-nil}
 use Prim.Native.Nat.{ℕ, zero, suc, ◌+◌, ◌-◌, ◌*◌, ◌≤◌, ◌<◌}
-use native.Mathlib.Nat.{zero-add, add_comm, suc-mul, add-sub_cancel_left}
+use native.Mathlib.Nat.{zero-add, add-zero, add_comm, suc-add, add-suc, suc-mul, add-sub_cancel_left}
 use native.Mathlib.Omega.{arith}
 use native.Mathlib.Numerals.{add-one}
 use lib.ListN.{length, get_or, set, take, drop, length-append, length-take, drop_of_length-le}
-use lib.Seq.{take-suc, take-suc-set, take_at, drop_at, drop-cons, drop-set-lt, length-take-le, drop-drop, take_all}
+use lib.Seq.{take-suc, take-suc-set, take_at, drop_at, drop-cons, drop-set-lt, length-take-le, drop-drop, take_all, set-get_or}
 use borrow.Rule.Slice.PartMut.{put_mid}
 use Rattle.rules.specs.Bytes.{big_endian, number, words_in, bytes_of, map_from, overlay}
 use Rattle.rules.proofs.Parts.{overlay_is}
@@ -30,6 +30,13 @@ unfolding bytes_of
 length_bytes_of [] = refl
 length_bytes_of (x ∷ xs) =
     length-append (big_endian 8 x) (bytes_of xs) ∙ ap₂ ◌+◌ (length_big_endian 8 x) (length_bytes_of xs) ∙ omega arith
+
+-- map_from: a list more
+pub map_append : {A : Type 0} (f : ℕ → A → A) (k : ℕ) (xs ys : List A)
+    → map_from f k (xs ++ ys) ≡ map_from f k xs ++ map_from f (k + length xs) ys
+unfolding map_from
+map_append f k [] ys = rw add-zero
+map_append f k (x ∷ xs) ys = rw (map_append f (suc k) xs ys, add-suc, suc-add)
 
 -- map_from in place: one element more
 pub mapped_more : (f : ℕ → ℕ → ℕ) (l : List ℕ) (i : ℕ) {y : ℕ} → i < length l → y ≡ f i (get_or l i 0)
@@ -93,3 +100,7 @@ give_all words old now i all fits e =
     let long : length (bytes_of words) ≡ i * 8 = length_bytes_of words ∙ ap (λ (n : ℕ). n * 8) (sym all) in
     rw (overlay_is 0 (bytes_of words) old (omega arith), long, zero-add)
     (e ∙ ap (λ (l : List ℕ). bytes_of l ++ drop (i * 8) old) (take_all i words (omega arith)))
+
+-- a register stored where it stands changes nothing
+pub store_same : (words : List ℕ) (i x : ℕ) → get_or words i 0 ≡ x → set words i x ≡ words
+store_same words i x e = rw (← e) (set-get_or words i 0)

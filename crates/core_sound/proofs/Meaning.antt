@@ -13,7 +13,7 @@ use Rattle.rules.specs.Records.{empty_domain, free_context, open_frame, public_p
 use Rattle.rules.specs.Sound.{domain_sound, context_sound, saved_sound, page_sound, frame_sound, whole, sound}
 use Rattle.rules.specs.declared.Setup.{Setup}
 use Rattle.rules.proofs.Facts.{each, all, passed, all_at}
-use Rattle.core_tables.specs.Image.{image_words, tables_in, saved_in, state_in}
+use Rattle.core_tables.specs.Image.{image_words, tables_in, saved_in, state_in, Canonical}
 use Rattle.core_tables.proofs.Images.{told_canonical, tell_canonical}
 use Rattle.core_tables.proofs.Reading.{domain_there, context_there, frame_there, page_there, used_there, long}
 use Rattle.core_tables.proofs.Registers.{length_saved, saved_past}
@@ -125,6 +125,12 @@ module _ (s : Setup) (x y : List ℕ) (r : Room s) where
     image_right q =
         let e = each _ q in
         all_right s x r (told_canonical s.pages x size e.0) (sounds_of e.1.0)
+
+-- what an accepted image gives the events: it is canonical, and its state is sound
+pub image_told : (s : Setup) (x y : List ℕ) → length x ≡ image_words → T (sound_image s x y)
+    → Canonical s.pages x × T (sound s (state_in s x y))
+unfolding sound_image
+image_told s x y size q = let e = each _ q in (told_canonical s.pages x size e.0, e.1.0)
 
 -- the answer of a test by a number that is 0 where all is right
 pub answer : {P : Type 0} (n : ℕ) (c : Bool) → Tells P n → (P → T c) → (T c → P) → eqb n 0 ≡ c

@@ -10,6 +10,7 @@ use lib.ListN.{length, get_or, drop, drop_of_length-le}
 use lib.Seq.{drop-cons}
 use Rattle.rules.specs.Bytes.{same_bytes}
 use Rattle.rules.specs.Sizes.{max_domains, max_contexts, max_frames}
+use Rattle.rules.specs.declared.Tables.{Tables}
 use Rattle.rules.specs.declared.DomainRecord.{DomainRecord}
 use Rattle.rules.specs.declared.ContextRecord.{ContextRecord}
 use Rattle.rules.specs.declared.FrameRecord.{FrameRecord}
@@ -18,6 +19,7 @@ use Rattle.core_tables.specs.Words.{life_word, activity_word, names_word, mappin
 use Rattle.core_tables.specs.Image.{image_words, domains_at, contexts_at, frames_at, mapped_at, home_at, sign_at, used_at}
 use Rattle.core_tables.specs.Image.{max_entries, domain_at, context_at, frame_at, page_at, tables_in, image_of, canonical}
 use Rattle.core_tables.specs.Image.{Canonical}
+use Rattle.core_tables.specs.Put.{Put}
 use Rattle.core_tables.proofs.Sections.{words_of, words_back}
 
 module _ (v : ℕ) (x : List ℕ) (long : length x ≡ image_words) where
@@ -64,6 +66,10 @@ module _ (v : ℕ) (x : List ℕ) (long : length x ≡ image_words) where
         home = λ i b. h.0 i (omega arith) (omega arith);
         sign = λ i b. s.0 i (omega arith) (omega arith);
       }
+
+-- after a change of a canonical image the words are the image of the changed tables
+pub put_image : {v : ℕ} {x y : List ℕ} {t : Tables} → length y ≡ image_words → Canonical v x → Put v x y t → y ≡ image_of v t
+put_image {v} {x} {y} {t} long c p = canonical_image v y long (p.canonical c) ∙ ap (image_of v) p.tables
 
 -- tables have one canonical image
 pub one_image : (v : ℕ) (x y : List ℕ) → length x ≡ image_words → length y ≡ image_words → Canonical v x → Canonical v y

@@ -74,6 +74,12 @@ unfolding hex
 hex_append [] b = refl
 hex_append (x ∷ a) b = ap (λ (l : List ℕ). hex_digit_ascii (x / 16) ∷ hex_digit_ascii (x % 16) ∷ l) (hex_append a b)
 
+-- two digits for each byte
+pub length_hex : (a : List ℕ) → length (hex a) ≡ 2 * length a
+unfolding hex
+length_hex [] = refl
+length_hex (x ∷ a) = omega (arith, length_hex a)
+
 module _ (bytes : List ℕ) (i : ℕ) {start before after : Cursor} where
   -- one byte more
   pub hex_turn : {x y : ℕ} → i < length bytes → Writes (hex (take i bytes)) (2 * i) start before

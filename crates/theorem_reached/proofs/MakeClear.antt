@@ -1,7 +1,7 @@
 -- Making a page Clear in a frame that names none, which unveiling and cloaking do, and filling a frame: what then stands in the page's
 -- record and frame and in all others, and that the machine stays acceptable.
-use Rattle.std.specs.Prelude.{Some, None}
-use mathlib.Core.Path.{◌≡◌, refl, sym, ◌∙◌}
+use Rattle.std.specs.Prelude.{Option, Some, None}
+use mathlib.Core.Path.{◌≡◌, refl}
 use mathlib.Core.Logic.{◌≢◌}
 use mathlib.Core.List.{List}
 use mathlib.Core.Bool.{not}
@@ -11,7 +11,6 @@ use lib.ListN.{length}
 use lib.Dec.{T, eqb_refl, lt→ltb}
 use Rattle.rules.specs.Bytes.{with_part}
 use Rattle.rules.specs.Sizes.{page_number, domain_in, page_in, frame_in}
-use Rattle.std.proofs.lemmas.Option.{none-some}
 use Rattle.rules.specs.Records.{Given, Machine, life_of, place_of, names_of, is_clear_in, is_empty, with_names, with_place, frame_bytes}
 use Rattle.rules.specs.Records.{fill_frame}
 use Rattle.rules.specs.Sound.{wear_sound, place_sound, names_sound}
@@ -34,11 +33,15 @@ use Rattle.theorem_reached.proofs.SoundPages.{number_long, moved_sound, place_ot
 use Rattle.theorem_reached.proofs.FramesAndSlots.{Within}
 use Rattle.theorem_reached.proofs.SealPage.{Holds, Stays}
 
+-- what names none names no page
+pub nothing_page : {d : Asid} {v : Gvpn} {n : Option (Asid × Gvpn)} → n ≡ None → n ≡ Some (d, v) → ⊥
+nothing_page p q = cc
+
 -- no page is Clear in a frame that names none
 pub none_clear : (s : Setup) (t : Tables) → Agreed s t → (f : Gppn) → names_of t f ≡ None → (d : Asid) (v : Gvpn) → Within s d v
     → (h : Gppn) (w : Wear) → place_of s t d v ≡ Clear h w → h.0 ≢ f.0
 none_clear s t agrees f none d v hd h w c q =
-    none-some (d, v) (sym none ∙ (rw (same_frame h f q) at (agrees.named d v h w hd.domain hd.page c).1))
+    nothing_page none (rw (same_frame h f q) at (agrees.named d v h w hd.domain hd.page c).1)
 
 -- a frame filled
 module _ (s : Setup) (f : Gppn) (hf : f.0 < s.frames) (m : Machine) (long : length m.frames ≡ s.frames * s.size) (new : List ℕ)
@@ -107,7 +110,7 @@ module _ (g : Given) (m : Machine) (f : Gppn) (d : Asid) (v : Gvpn) (w : Wear) (
       let a = h.accepted in
       accepted_kept g m n a (length_with_part s.size f.0 new m.frames) refl
       (moved_sound g m a d v h.within f h.frame h.lives (λ k c. absurd (h.away k c))
-      (λ e y q. absurd (none-some (e, y) (sym h.none ∙ q))) m.tables.used (omega arith) a.looks.sound.used (Clear f w) (Some (d, v))
+      (λ e y q. absurd (nothing_page h.none q)) m.tables.used (omega arith) a.looks.sound.used (Clear f w) (Some (d, v))
       (all _ (lt→ltb _ _ h.frame, (rw now.names (names_self d v), (worn_still w h.worn, tt))))
       (all _ (lt→ltb _ _ h.within.domain, (lt→ltb _ _ h.within.page, (rw now.place (eqb_refl f.0), tt)))))
 

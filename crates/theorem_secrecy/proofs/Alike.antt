@@ -28,8 +28,7 @@ use Rattle.rules.proofs.Facts.{Accepted}
 use Rattle.theorem_reached.proofs.SealFrames.{Enough, Fits, Room, room_held, room_first, room_rest, first_accepted, seal_either, seal_none}
 use Rattle.theorem_reached.proofs.SealFrames.{seal_held}
 use Rattle.theorem_reached.proofs.SealPage.{Holds, sealed_frame, others_frame, others_names}
-use Rattle.std.proofs.lemmas.Option.{none-some}
-use Rattle.theorem_reached.proofs.MakeClear.{entered, Enters, enter_holds, enter_frames, enter_names, filled, unfilled}
+use Rattle.theorem_reached.proofs.MakeClear.{nothing_page, entered, Enters, enter_holds, enter_frames, enter_names, filled, unfilled}
 use Rattle.theorem_reached.proofs.EndOfDomain.{ended_names}
 use Rattle.theorem_secrecy.proofs.FreedFrames.{end_zeroes}
 
@@ -160,7 +159,7 @@ enter_alike g m n a f d v w x y hm hn k l e =
 
     at : (h : Gppn) → h.0 < g.setup.frames → names_of o.tables h ≡ None → Dec (h.0 ≡ f.0)
         → frame_bytes g.setup h o ≡ frame_bytes g.setup h (entered g.setup f d v w y l n)
-    at h hh q (yes p) = absurd (none-some (d, v) (sym q ∙ rw (same_frame h f p) (enter_holds g m f d v w x hm k).names))
+    at h hh q (yes p) = absurd (nothing_page {d = d} {v = v} q (rw (same_frame h f p) (enter_holds g m f d v w x hm k).names))
     at h hh q (no ne) =
         enter_frames g m f d v w x hm k h ne ∙ a.bare h hh (sym (enter_names g m f d v w x hm k h ne) ∙ q) ∙ sym
         (enter_frames g n f d v w y hn l h ne)

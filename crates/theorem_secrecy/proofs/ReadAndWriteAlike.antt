@@ -24,7 +24,7 @@ use Rattle.rules.proofs.Facts.{Accepted}
 use Rattle.theorem_reached.proofs.SealFrames.{Enough, Fits, seal_all_accepted}
 use Rattle.theorem_reached.proofs.FramesAndSlots.{Within}
 use Rattle.theorem_reached.proofs.SealPage.{Holds}
-use Rattle.std.proofs.lemmas.Option.{none-some}
+use Rattle.theorem_reached.proofs.MakeClear.{nothing_page}
 use Rattle.theorem_reached.proofs.TouchCases.{first_fits, touch_case}
 use Rattle.theorem_reached.proofs.PageFates.{seal_all_quiet, quiet_public}
 use Rattle.theorem_reached.proofs.BringIn.{bring_in_either, brings_public, brings_clear, brings_opened, brings_failed, sealed_enters}
@@ -158,5 +158,4 @@ module _ (g : Given) (m n : Machine) (gm : Accepted g m) (gn : Accepted g n) (a 
       (λ _. refl))
       (λ o u w go gu b private holds.
       both_done s false _ _ [] []
-      (marked_alike s _ _ (span_alike g o u go gu b f hf p x y (λ none. absurd (none-some (d, v) (sym none ∙ holds.names)))) d v)
-      (λ _. refl))
+      (marked_alike s _ _ (span_alike g o u go gu b f hf p x y (λ none. absurd (nothing_page none holds.names))) d v) (λ _. refl))

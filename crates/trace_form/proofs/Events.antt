@@ -6,6 +6,7 @@ use native.Mathlib.Nat.{zero-add, add-zero, suc-add, add-suc, le_of_suc-le-suc, 
 use native.Mathlib.Omega.{arith}
 use lib.Arith.{lt-one}
 use lib.Dec.{lit<}
+use lib.ListN.{get_or}
 use Rattle.rules.specs.Events.{kinds, kind_of}
 use Rattle.rules.specs.declared.Span.{Span}
 use Rattle.rules.specs.declared.TrapKind.{TrapKind}
@@ -13,12 +14,17 @@ use Rattle.rules.specs.declared.TrapKind.TheVariants.{Interrupt, Call}
 use Rattle.rules.specs.declared.Event.{Event}
 use Rattle.rules.specs.declared.Event.TheVariants.{Begin, End, Map, Unmap, KernelRead, KernelWrite, Resume, Spawn, Leave}
 use Rattle.rules.specs.declared.Event.TheVariants.{Cloak, Uncloak, Read, Write, Trap}
-use Rattle.trace_form.specs.Form.{numbers, with_span, widths_of, trap_number, trap_of, no_span, fields, fields_of, event_of}
+use Rattle.trace_form.specs.Form.{numbers, with_span, widths_of, trap_number, trap_of, no_span, fields, fields_of, events, event_of}
 use Rattle.trace_form.specs.Bounds.{Within}
 use Rattle.trace_form.specs.declared.Form.{Form}
 use Rattle.trace_form.specs.declared.Widths.{Widths}
 use Rattle.trace_form.specs.declared.Fields.{Fields}
 use Rattle.trace_form.proofs.Table.{◌▹◌}
+
+-- the event of a kind that the code found to be n
+pub event_at_holds : (v : Fields) (k n : ℕ) → k ≡ n → get_or (events v) n (Leave (record { 0 = 0 })) ≡ event_of k v
+unfolding event_of
+event_at_holds v k n e = ap (λ (x : ℕ). get_or (events v) x (Leave (record { 0 = 0 }))) (sym e)
 
 -- what holds of each of the n numbers from k on
 abbrev Each : (ℕ → Type 0) → ℕ → ℕ → Type 0

@@ -1,12 +1,32 @@
 -- The table of widths: which row a kind has, and what every row keeps to, in every right form.
+use mathlib.Core.Path.{◌≡◌, sym, ap}
 use mathlib.Core.List.{List, [], ◌∷◌}
-use Prim.Native.Nat.{ℕ, zero, suc, ◌≤◌}
+use Prim.Native.Nat.{ℕ, zero, suc, ◌≤◌, zero-le}
 use native.Mathlib.Omega.{arith}
-use lib.ListN.{get_or}
+use lib.Arith.{lt_of_le-ne}
+use lib.ListN.{get_or, get_or-eq_default}
 use Rattle.trace_form.specs.Form.{Right, numbers, with_span, table, widths_of}
 use Rattle.trace_form.specs.Bounds.{Small}
 use Rattle.trace_form.specs.declared.Form.{Form}
 use Rattle.trace_form.specs.declared.Widths.{Widths}
+
+-- the row of a kind that the code found to be n
+pub row_at : (f : Form) (k n : ℕ) → k ≡ n → get_or (table f.context) n (numbers 0 0 0) ≡ widths_of f k
+unfolding widths_of
+row_at f k n e = ap (λ (x : ℕ). get_or (table f.context) x (numbers 0 0 0)) (sym e)
+
+-- a number that is none of the first n is at least n
+abbrev pub None : ℕ → ℕ → Type 0
+None zero k = Unit {0}
+None (suc n) k = None n k × (k ≡ n → ⊥)
+
+pub past : (n k : ℕ) → None n k → n ≤ k
+past zero k t = zero-le
+past (suc n) k t = lt_of_le-ne (past n k t.0) (λ e. t.1 (sym e))
+
+pub row_past : (f : Form) (k : ℕ) → None 14 k → numbers 0 0 0 ≡ widths_of f k
+unfolding widths_of
+row_past f k t = sym (get_or-eq_default (table f.context) (numbers 0 0 0) {n = k} (past 14 k t))
 
 -- a row of facts, one for each kind
 infixr 30 ◌▹◌

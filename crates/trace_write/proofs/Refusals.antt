@@ -1,6 +1,6 @@
--- What is known where the writer's checks refuse nothing.
+-- What is known where the writer's checks refuse nothing, and that a number beyond its field comes first.
 use mathlib.Core.Path.{◌≡◌}
-use mathlib.Core.Bool.{Bool, not}
+use mathlib.Core.Bool.{Bool, false, not}
 use mathlib.Core.List.{List, [], ◌∷◌}
 use Prim.Native.Nat.{ℕ, ◌+◌, ◌^◌, ◌≤◌, ◌<◌}
 use native.Mathlib.Omega.{arith}
@@ -9,7 +9,7 @@ use lib.ListN.{length}
 use borrow.Author.Tests.{ltb-false, not-false}
 use Rattle.rules.specs.Bytes.{all_of}
 use Rattle.rules.specs.Sizes.{setup_in_range, supply_right}
-use Rattle.rules.specs.Answers.{check}
+use Rattle.rules.specs.Answers.{check, first_of}
 use Rattle.rules.proofs.Facts.{each, passed}
 use Rattle.rules.specs.declared.Setup.{Setup}
 use Rattle.rules.specs.declared.Span.{Span}
@@ -39,6 +39,12 @@ header_ready s supply room e =
       signatures = eqb→eq (length supply) (supply_length s) p.1.0;
       enough = ltb-false room (header_length + length supply) b.0;
     }
+
+-- a record with a number that its field cannot hold is refused with 2, whatever else is wrong with it
+module _ (h : Head) (v : Fields) (want n room : ℕ) where
+  pub record_numbers : numbers_fit h.widths v ≡ false → 2 ≡ refusal_of h v want n room
+  unfolding refusal_of first_of check
+  record_numbers out = simp out
 
 -- what holds of a record that is not refused
 pub record RecordReady (h : Head) (v : Fields) (want n room : ℕ) : Type 0 where
